@@ -12,5 +12,5 @@ mod within;
 pub use clauses::{Case, case_from, clauses_at, default_of, statement_at, statements_before};
 pub use simple::{expr_value, if_test, return_value, throw_value};
 pub use switches::{case_value, clause_statement, switch_value};
-pub use tries::{try_block, try_finally, try_handler};
+pub use tries::{handler_at, try_block, try_finally, try_handler};
 pub use within::within_world;

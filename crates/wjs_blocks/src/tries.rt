@@ -8,26 +8,26 @@ ghost use Rattle.wjs_meaning.specs.Statements.{try_block, try_catch, try_finally
 ghost use Rattle.wjs_model.specs.Contents.{completion_in, holding_in};
 ghost use Rattle.wjs_model.specs.Lists.{handler_of};
 ghost use Rattle.wjs_model.specs.Soundness.{Base, HasValue, HasCompletion, StandsIf};
-ghost use Rattle.wjs_frames.specs.Parts.{node_now};
+ghost use Rattle.wjs_frames.specs.Parts.{node_among, node_now};
 ghost use Rattle.wjs_frames.specs.Handling.{Runs, GoesOn};
 ghost use Rattle.wjs_blocks.specs.Tries.{catch_in};
 
 use crate::enters::enter_in;
 use wjs_base::{OutOfMemory, Value};
 use wjs_effects::enter_at_once;
-use wjs_frames::{Part, finish, hold, node_of};
+use wjs_frames::{Part, finish, hold, node_at};
 use wjs_heap_steps::{create_scope, name_of, write};
 use wjs_model::{Completion, Config, Frame, Held, Point, StmtPoint};
 use wjs_store::WorldStore;
 use wjs_tree::{Handler, Node, NodeId};
 
-/// The handler of the `try` that the frame runs; none where it has none.
-fn catch_of<S: WorldStore>(config: &Config<S>, frame: &Frame) -> Option<Handler>
+/// The handler of the `try` at a node; None where it has none, and of every other node.
+pub fn handler_at<S: WorldStore>(config: &Config<S>, frame: &Frame, node: NodeId) -> Option<Handler>
     requires { Base S.meaning config.now }
-    ensures is { result ≡ catch_in (node_now S.meaning config.now frame.now) }
-    ensures found { IfSome result (λ handler. Has config.now.heap.texts handler.name) }
+    ensures is { result ≡ catch_in (node_among config.now.units.items frame.now.tree node) }
+    ensures known { IfSome result (λ handler. Has config.now.heap.texts handler.name) }
 {
-    match node_of(config, frame) {
+    match node_at(config, frame, node) {
         Some(Node::Try(_, handler, _)) => *handler,
         _ => None,
     }
@@ -46,7 +46,7 @@ pub fn try_block<S: WorldStore>(
     ensures { GoesOn S.meaning frame config.old config.new result (λ t env.
         try_block (handler_of (node_in t (node_now S.meaning config.old frame))) (number last) env (completion_in t completion)) }
 {
-    let handler = catch_of(config, &frame);
+    let handler = handler_at(config, &frame, frame.node());
     block_ended(config, frame, handler, last, completion)
 }
 

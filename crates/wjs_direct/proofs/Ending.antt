@@ -19,7 +19,7 @@ use Rattle.wjs_effects.proofs.Leaving.{shorten_as}
 use Rattle.wjs_effects.proofs.Lines.{stmt_is}
 use Rattle.wjs_stopping.specs.Evaluating.{Evaluates}
 use Rattle.wjs_stopping.proofs.Evaluating.{line_ends}
-use Rattle.wjs_direct.specs.Deeds.{entry_here}
+use Rattle.wjs_direct_lines.specs.Deeds.{entry_here}
 
 pub end_does : {S : Type 0} (meaning : S → Meaning) (c : Config S) (f : Frame) (node : NodeId) (n : Node) (e : Said) (w : List Frame) (p : Option (Frame × Phase)) → node_among c.units.items f.tree node ≡ n
     → ((t : Table) (env : Env) → stmt_of node.0 (node_in t n) env ≡ Ret (completion_in t e)) → Evaluates meaning (entry_here meaning c f (AtStmt node.0)) completion_in (Ok e) w p c c

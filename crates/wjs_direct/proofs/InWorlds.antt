@@ -28,9 +28,9 @@ use Rattle.wjs_stopping.specs.declared.ends.Broken.{Broken}
 use Rattle.wjs_stopping.specs.Waiting.{at_node}
 use Rattle.wjs_stopping.specs.Evaluating.{Evaluates}
 use Rattle.wjs_stopping.proofs.Evaluating.{in_memory}
-use Rattle.wjs_direct.specs.Deeds.{goal_here, line_here}
-use Rattle.wjs_direct.proofs.Forming.{node_there}
-use Rattle.wjs_direct.proofs.Parts.{shortened}
+use Rattle.wjs_direct_lines.specs.Deeds.{goal_here, line_here}
+use Rattle.wjs_direct_lines.proofs.Forming.{node_there}
+use Rattle.wjs_direct_lines.proofs.Parts.{shortened}
 
 -- ---- within nested deeds: what comes next is, where the look for the world is
 

@@ -46,11 +46,11 @@ use Rattle.wjs_stopping.specs.Ends.{gives_in}
 use Rattle.wjs_stopping.specs.Waiting.{at_node, WaitsAt}
 use Rattle.wjs_stopping.specs.Evaluating.{Evaluates, InMemory, Leaves}
 use Rattle.wjs_stopping.proofs.Evaluating.{in_memory, leaves_all}
-use Rattle.wjs_direct.specs.Deeds.{entry_here, form_here, goal_here, line_here}
+use Rattle.wjs_direct_lines.specs.Deeds.{entry_here, form_here, goal_here, line_here}
 use Rattle.wjs_direct.specs.Literals.{IsObjectLiteral, pairs_left}
-use Rattle.wjs_direct.proofs.Forming.{node_there}
-use Rattle.wjs_direct.proofs.Looping.{leaves_shorter}
-use Rattle.wjs_direct.proofs.Parts.{broke_does}
+use Rattle.wjs_direct_lines.proofs.Forming.{node_there}
+use Rattle.wjs_direct_lines.proofs.Nesting.{leaves_shorter}
+use Rattle.wjs_direct_lines.proofs.Parts.{broke_does}
 
 -- what a literal begins with
 object_begins : (t : Table) (n : Node) (properties : List Property) (comma : Bool) (here : ℕ) (env : Env) → n ≡ nodes.ObjectLit properties comma

@@ -39,11 +39,11 @@ use Rattle.wjs_stopping.specs.Ends.{gives_in}
 use Rattle.wjs_stopping.specs.Evaluating.{Evaluates, Leaves, outcome_in}
 use Rattle.wjs_stopping.specs.Waiting.{at_node}
 use Rattle.wjs_stopping.proofs.Evaluating.{in_memory, leaves_all}
-use Rattle.wjs_direct.specs.Deeds.{form_here, goal_here, line_here}
+use Rattle.wjs_direct_lines.specs.Deeds.{form_here, goal_here, line_here}
 use Rattle.wjs_direct.specs.Switches.{BeginsAt, DefaultsAt, IsCase, NextCase, case_then, cases_left, clauses_left, default_left, sought_then, statement_then, statements_left, switch_end}
-use Rattle.wjs_direct.proofs.Forming.{form_goes_on, line_ended, node_there}
-use Rattle.wjs_direct.proofs.Looping.{line_begins, line_same, part_left}
-use Rattle.wjs_direct.proofs.Parts.{line_form}
+use Rattle.wjs_direct_lines.proofs.Forming.{form_goes_on, line_ended, node_there}
+use Rattle.wjs_direct_lines.proofs.Nesting.{line_begins, line_same, part_left}
+use Rattle.wjs_direct_lines.proofs.Parts.{line_form}
 
 -- ---- how it ends by the end of a statement
 

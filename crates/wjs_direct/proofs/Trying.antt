@@ -15,8 +15,7 @@ use Rattle.wjs_store.specs.Meaning.{Meaning}
 use Rattle.wjs_tree.specs.declared.node.Handler.{Handler}
 use Rattle.wjs_tree.specs.declared.node.Node.{Node}
 use Rattle.wjs_tree.specs.declared.node.Node.TheVariants as nodes
-use Rattle.wjs_arena.specs.Entries.{scope_of}
-use Rattle.wjs_scope.specs.Nesting.{Around, Caught, caught_part, on_side, option_part, parts, IsAmong}
+use Rattle.wjs_scope.specs.Nesting.{Around, caught_part, on_side, option_part}
 use Rattle.wjs_meaning.specs.Deeds.{Env, AtStmt, Completion, Act, Ret, Throws, Eval, Sub, Do, Create, Write, then_value}
 use Rattle.wjs_meaning.specs.NewObjects.{scope_object}
 use Rattle.wjs_meaning.specs.Reading.{handler_in, node_in, number}
@@ -38,20 +37,22 @@ use Rattle.wjs_model.specs.Standing.{Stands}
 use Rattle.wjs_frames.specs.Doing.{Does}
 use Rattle.wjs_frames.specs.Following.{Follows, Later}
 use Rattle.wjs_frames.specs.Parts.{env_in, node_among, then_at}
-use Rattle.wjs_frames.proofs.Parting.{among_right, caught_here as caught_stands, stands_here, stands_later}
+use Rattle.wjs_frames.proofs.Parting.{among_right, stands_here}
 use Rattle.wjs_frames.proofs.Shorter.{follows_shorter, shorten_deed, shorten_do, shorten_trans}
 use Rattle.wjs_heap_steps.proofs.Later.{later_twice}
 use Rattle.wjs_quick.proofs.Coming.{shorten_goal}
 use Rattle.wjs_step_common.proofs.Following.{follows_as}
+use Rattle.wjs_blocks.specs.Tries.{catch_in}
+use Rattle.wjs_blocks.proofs.Catching.{handler_same}
 use Rattle.wjs_stopping.specs.declared.ends.Broken.{Broken}
 use Rattle.wjs_stopping.specs.declared.ends.Broken.TheVariants as ends
 use Rattle.wjs_stopping.specs.Evaluating.{Evaluates, HasOutcome, InMemory, Leaves, rest_in}
 use Rattle.wjs_stopping.specs.Waiting.{at_node, waiting_at, WaitsAt}
 use Rattle.wjs_stopping.proofs.Evaluating.{in_memory, leaves_all}
-use Rattle.wjs_direct.specs.Deeds.{goal_here, line_here}
-use Rattle.wjs_direct.specs.Tries.{IsCaught, catch_in, caught_here, ended_by, last_by, thrown_by}
-use Rattle.wjs_direct.proofs.Forming.{line_moved, node_there}
-use Rattle.wjs_direct.proofs.Looping.{leaves_shorter, within_left, within_stopped}
+use Rattle.wjs_direct_lines.specs.Deeds.{goal_here, line_here}
+use Rattle.wjs_direct.specs.Tries.{IsCaught, caught_here, ended_by, last_by, thrown_by}
+use Rattle.wjs_direct_lines.proofs.Forming.{line_moved, node_there}
+use Rattle.wjs_direct_lines.proofs.Nesting.{leaves_shorter, within_left, within_stopped}
 
 -- ---- what a `throw` ends with
 
@@ -123,16 +124,6 @@ last_there c earlier (completions.Throws v) k h = h
 
 -- ---- the handler
 
-caught_among : (n : Node) (h : Handler) → catch_in n ≡ Some h → IsAmong (parts n) (h.block, Caught h.name)
-caught_among (nodes.Try b (Some k) last) h q = let same : k ≡ h = cc in subst (λ (x : Handler). IsAmong (parts (nodes.Try b (Some k) last)) (x.block, Caught x.name)) same (inr (inl refl))
-caught_among (nodes.Try b None last) h q = absurd (cc)
-caught_among _ h q = absurd (cc)
-
--- by content
-handler_same : (t : Table) (n : Node) → handler_of (node_in t n) ≡ option_map (handler_in t) (catch_in n)
-handler_same t (nodes.Try b handler last) = refl
-handler_same t _ = refl
-
 -- what a `try` begins with
 pub try_begins : (t : Table) (n : Node) (block : NodeId) (handler : Option Handler) (last : Option NodeId) (here : ℕ) (env : Env) → n ≡ nodes.Try block handler last
     → stmt_of here (node_in t n) env ≡ Eval (AtStmt block.0) env (try_block (handler_of (node_in t n)) (number last) env)
@@ -182,15 +173,6 @@ module _ {S : Type 0} (meaning : S → Meaning) where
       → Evaluates meaning (line_here meaning mid f (λ t env. caught_here old f node last t env (completion_in t e))) completion_in done w p mid new
   caught_moved old mid new f node last e done w p l d =
       subst (λ (us : Vec Program Global). Evaluates meaning (line_here meaning mid f (λ t env. try_block (handler_of (node_in t (node_among us.items f.tree node))) (number last) env (completion_in t e))) completion_in done w p mid new) l.units d
-
-  -- its block stands in the scope that is made for it
-  pub handler_stands : (old mid late : Config S) (f : Frame) (node : NodeId) (h : Handler) (scope : ObjId) → IsThere meaning old (at_node f node []) → catch_in (node_among old.units.items f.tree node) ≡ Some h
-      → Later meaning old mid → scope_of mid.heap.arena scope ≡ Some f.scope → Later meaning mid late → Stands late.units.items late.heap.arena f.tree h.block scope 0
-  handler_stands old mid late f node h scope there is l outer m =
-      let k = at_node f node [] in
-      let n = node_among mid.units.items f.tree node in
-      let among : IsAmong (parts n) (h.block, Caught h.name) = caught_among n h (ap (λ (us : Vec Program Global). catch_in (node_among us.items f.tree node)) l.units ∙ is) in
-      stands_later meaning mid (record f { scope = scope }) late h.block m (caught_stands meaning mid k n h.block (l.frames k there) refl h.name scope among outer)
 
   -- its scope is made, the name is written there, and its block is run
   pub catch_does : (old mid late new : Config S) (f : Frame) (h : Handler) (last : Option NodeId) (v : Numbered) (scope outer : ObjId) (name : Name) (done : Result Said Broken) (w : List Frame) (p : Option (Frame × Phase)) → outer ≡ f.scope

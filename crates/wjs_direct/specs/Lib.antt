@@ -1,9 +1,5 @@
-pub mod Deeds
 pub mod Rounds
-pub mod Sequences
-pub mod Variables
 pub mod Literals
-pub mod News
 pub mod Tries
 pub mod Switches
-pub mod References
+pub mod Visits

@@ -13,7 +13,7 @@ use Rattle.wjs_model.specs.declared.config.Config.{Config}
 use Rattle.wjs_model.specs.declared.frame.Activation.{Activation as Frame}
 use Rattle.wjs_model.specs.Lists.{items_of, pairs_of}
 use Rattle.wjs_frames.specs.Parts.{node_among}
-use Rattle.wjs_direct.specs.Deeds.{IsNode}
+use Rattle.wjs_direct_lines.specs.Deeds.{IsNode}
 
 module _ {S : Type 0} (c : Config S) (f : Frame) (node : NodeId) (o : ObjId) where
   -- the items from one of a number on, and then the length

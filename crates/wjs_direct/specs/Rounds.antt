@@ -15,7 +15,7 @@ use Rattle.wjs_model.specs.Contents.{completion_in}
 use Rattle.wjs_model.specs.Soundness.{HasCompletion, StandsHere, StandsIf}
 use Rattle.wjs_frames.specs.Parts.{env_in, node_among}
 use Rattle.wjs_stopping.specs.declared.ends.Broken.{Broken}
-use Rattle.wjs_direct.specs.Deeds.{ComesTo, goal_here}
+use Rattle.wjs_direct_lines.specs.Deeds.{ComesTo, goal_here}
 use Rattle.wjs_direct.specs.declared.rounds.LoopParts.{LoopParts}
 use Rattle.wjs_direct.specs.declared.do_rounds.DoParts.{DoParts}
 

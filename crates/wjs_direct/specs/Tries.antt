@@ -1,10 +1,7 @@
 -- Exceptions: what a statement throws, what catches it, and what is left of a `try` behind its block.
-use Rattle.std.specs.Prelude.{Option, None, Result, Ok, Err}
+use Rattle.std.specs.Prelude.{Option, Result, Ok, Err}
 use Rattle.wjs_base.specs.Text.{Table}
 use Rattle.wjs_base.specs.declared.ids.NodeId.{NodeId}
-use Rattle.wjs_tree.specs.declared.node.Handler.{Handler}
-use Rattle.wjs_tree.specs.declared.node.Node.{Node}
-use Rattle.wjs_tree.specs.declared.node.Node.TheVariants.{Try}
 use Rattle.wjs_meaning.specs.Deeds.{Act, Completion, Env}
 use Rattle.wjs_meaning.specs.Reading.{node_in, number}
 use Rattle.wjs_meaning.specs.Statements.{try_block}
@@ -40,11 +37,6 @@ IsCaught (Err ends.OutOfMemory) = Unit {0}
 abbrev pub last_by : Said → Said → Said
 last_by earlier completions.Normal = earlier
 last_by earlier e = e
-
--- the handler of a `try`, where it has one
-abbrev pub catch_in : Node → Option Handler
-catch_in (Try b handler last) = handler
-catch_in node = None
 
 module _ {S : Type 0} where
   -- what follows the block of a `try`

@@ -5,23 +5,22 @@ ghost use Rattle.wjs_by_content.specs.Values.{Object};
 ghost use Rattle.wjs_meaning.specs.Functions as functions;
 ghost use Rattle.wjs_meaning.specs.Reading.{node_in};
 ghost use Rattle.wjs_meaning.specs.Trees.{elements_of};
-ghost use Rattle.wjs_model.specs.Contents.{completion_in};
-ghost use Rattle.wjs_model.specs.Soundness.{Base, HasCompletion, HasObject, HasValue, IsThere, StandsHere};
+ghost use Rattle.wjs_model.specs.Soundness.{Base, HasObject, HasValue, IsThere, StandsHere};
 ghost use Rattle.wjs_model.specs.Standing.{IsFunction};
 ghost use Rattle.wjs_frames.specs.Following.{Later};
 ghost use Rattle.wjs_frames.specs.Parts.{node_now};
 ghost use Rattle.wjs_stopping.specs.Ends.{gives_in};
 ghost use Rattle.wjs_stopping.specs.Evaluating.{Evaluates, HasOutcome, InMemory};
-ghost use Rattle.wjs_direct.specs.Deeds.{IsScript, line_here};
+ghost use Rattle.wjs_direct_lines.specs.Deeds.{IsScript, line_here};
 
-use crate::holding::function_stops;
 use crate::statements::statement;
 use wjs_base::{NodeId, ObjId, Value};
+use wjs_direct_lines::{body_ended, function_stops};
 use wjs_effects::element_at;
 use wjs_heap_steps::scope_of;
 use wjs_model::{CallPoint, Completion, Config, Frame, Phase, Point, Start};
 use wjs_step_common::number_after;
-use wjs_stopping::{Broken, Stops, stop, waits};
+use wjs_stopping::{Broken, Stops, waits};
 use wjs_store::WorldStore;
 use wjs_variables::enter_scope;
 
@@ -135,34 +134,4 @@ pub(crate) fn run_body<S: WorldStore>(
         }
     }
     Ok(Value::Undefined)
-}
-
-/// How a body ends by an element before the one of a number that did not end normally: a return gives its value. What no body ends with
-/// is left to its frame.
-pub(crate) fn body_ended<S: WorldStore>(
-    config: &mut Config<S>,
-    frame: &Frame,
-    next: u32,
-    end: Completion,
-    stops: &mut Stops,
-) -> Result<Value, Broken>
-    requires base { Base S.meaning config.old }
-    requires there { IsThere S.meaning config.old frame.now }
-    requires body { IsFunction config.old.units.items config.old.heap.arena frame.now.tree frame.now.node frame.now.scope 1 }
-    requires empty { stops.old.waits ≡ [] }
-    requires end { HasCompletion config.old end }
-    ensures later { InMemory result (Later S.meaning config.old config.new) }
-    ensures found { HasOutcome S.meaning HasValue config.new result stops.new.waits stops.new.top }
-    ensures does { Evaluates S.meaning (line_here S.meaning config.old frame.now
-        (λ t env. functions.body_next (functions.body_from (drop next (elements_of (node_in t (node_now S.meaning config.old frame.now)))) env) (completion_in t end)))
-        gives_in result stops.new.waits stops.new.top config.old config.new }
-{
-    match end {
-        Completion::Returns(value) => Ok(value),
-        Completion::Throws(error) => Err(Broken::Throws(error)),
-        _ => {
-            let phase = Phase::Given(Point::Call(CallPoint::BodyElement(next)), end);
-            Err(stop(config, frame, frame.node(), phase, stops))
-        }
-    }
 }

@@ -1,5 +1,5 @@
 //! Calls (ECMA-262, 3rd edition, sections 10.2.3, 11.2.3 and 13.2.1).
-ghost use Rattle.std.specs.Prelude.{◌≡◌, ◌∷◌, ◌++◌, All, OnOk, [], map};
+ghost use Rattle.std.specs.Prelude.{◌≡◌, All, [], map};
 ghost use Rattle.wjs_base.specs.Text.{Table};
 ghost use Rattle.wjs_by_content.specs.Objects.{Arena, object_at};
 ghost use Rattle.wjs_by_content.specs.Tables.{value_in};
@@ -14,29 +14,26 @@ ghost use Rattle.wjs_model.specs.Outside.{Sees};
 ghost use Rattle.wjs_model.specs.Soundness.{Base, HasObject, HasReference, HasValue, IsThere, StandsHere};
 ghost use Rattle.wjs_frames.specs.Following.{Later};
 ghost use Rattle.wjs_frames.specs.Parts.{node_among};
-ghost use Rattle.wjs_effects.specs.Sequences.{NextIs};
 ghost use Rattle.wjs_stopping.specs.Ends.{gives_in};
 ghost use Rattle.wjs_stopping.specs.Evaluating.{Evaluates, HasOutcome, InMemory};
-ghost use Rattle.wjs_direct.specs.Deeds.{IsCallee, IsScript, entry_here, form_here, line_here};
+ghost use Rattle.wjs_direct_lines.specs.Deeds.{IsCallee, IsScript, entry_here, form_here, line_here};
 
 use crate::bodies::body_called;
-use crate::callees::{callee_object, callee_of};
 use crate::expressions::value;
-use crate::holding::{argument_waits, call_stops, function_stops};
-use crate::natives::native_called;
-use crate::room::may_enter;
 use crate::targets::target;
 use wjs_arena::Code;
-use wjs_base::{ObjId, OutOfMemory, Value};
-use wjs_effects::element_of;
-use wjs_frames::node_at;
+use wjs_base::{ObjId, Value};
+use wjs_direct_lines::{
+    argument, argument_waits, base_of, call_stops, callee_object, callee_of, function_stops,
+    may_enter, native_called, push,
+};
 use wjs_heap_steps::{code_of, peek_value_of};
 use wjs_members::is_target;
 use wjs_model::{Config, ExprPoint, Frame, Phase, Point, Reference, Start};
 use wjs_step_common::{number_after, this_or_global};
-use wjs_stopping::{Broken, Stops, stop, waits};
+use wjs_stopping::{Broken, Stops, waits};
 use wjs_store::WorldStore;
-use wjs_tree::{Node, NodeId};
+use wjs_tree::NodeId;
 
 /// A call, whose step is taken: its callee, and then its arguments.
 #[cycle(direct)]
@@ -65,7 +62,7 @@ pub(crate) fn call<S: WorldStore>(
     }
 }
 
-/// A callee that is a target.
+/// A callee that is a target: the object that its reference holds is called; `this` is the base of a member. Mostly a look tells that object.
 #[cycle(direct)]
 fn target_called<S: WorldStore>(
     config: &mut Config<S>,
@@ -87,7 +84,13 @@ fn target_called<S: WorldStore>(
         gives_in result stops.new.waits stops.new.top config.old config.new }
 {
     match target(config, frame, callee, room, stops) {
-        Ok(reference) => reference_called(config, frame, node, reference, room, stops),
+        Ok(reference) => match peek_value_of(config, frame, reference) {
+            Some(Value::Object(function)) => {
+                let this = base_of(config, reference);
+                evaluate_arguments(config, frame, node, function, this, room, stops)
+            }
+            _ => callee_read(config, frame, node, reference, room, stops),
+        },
         Err(end) => {
             let point = Point::Expr(ExprPoint::CalleeTarget);
             Err(waits(config, frame, node, point, end, stops))
@@ -95,37 +98,7 @@ fn target_called<S: WorldStore>(
     }
 }
 
-/// The object that its reference holds is called; `this` is the base of a member. Mostly a look tells that object.
-#[cycle(direct)]
-fn reference_called<S: WorldStore>(
-    config: &mut Config<S>,
-    frame: &Frame,
-    node: NodeId,
-    reference: Reference,
-    room: u16,
-    stops: &mut Stops,
-) -> Result<Value, Broken>
-    requires base { Base S.meaning config.old }
-    requires there { IsThere S.meaning config.old frame.now }
-    requires node { StandsHere config.old frame.now node }
-    requires empty { stops.old.waits ≡ [] }
-    requires reference { HasReference config.old reference }
-    ensures later { InMemory result (Later S.meaning config.old config.new) }
-    ensures found { HasOutcome S.meaning HasValue config.new result stops.new.waits stops.new.top }
-    ensures does { Evaluates S.meaning (line_here S.meaning config.old frame.now
-        (λ t env. line.call_reference (arguments_of (node_in t (node_among config.old.units.items frame.now.tree node))) env (reference_in t reference)))
-        gives_in result stops.new.waits stops.new.top config.old config.new }
-{
-    match peek_value_of(config, frame, reference) {
-        Some(Value::Object(function)) => {
-            let this = base_of(config, reference);
-            evaluate_arguments(config, frame, node, function, this, room, stops)
-        }
-        _ => callee_read(config, frame, node, reference, room, stops),
-    }
-}
-
-/// The same, where no look tells an object: its value is read.
+/// A callee of which no look tells an object: its value is read.
 #[cycle(direct)]
 #[inline(never)]
 fn callee_read<S: WorldStore>(
@@ -215,36 +188,6 @@ fn callee_given<S: WorldStore>(
     }
 }
 
-/// The base of a member, and undefined for every other reference.
-fn base_of<S: WorldStore>(config: &Config<S>, reference: Reference) -> Value
-    requires { HasReference config.now reference }
-    ensures is { (t : Table) → value_in t result ≡ line.base_of (reference_in t reference) }
-    ensures found { HasValue config.now result }
-{
-    let _config = config;
-    match reference {
-        Reference::Member(base, _) => base,
-        _ => Value::Undefined,
-    }
-}
-
-/// The argument of a number.
-#[inline(always)]
-pub(crate) fn argument<S: WorldStore>(
-    config: &Config<S>,
-    frame: &Frame,
-    node: NodeId,
-    at: u32,
-) -> Option<NodeId>
-    ensures { (t : Table) → NextIs (arguments_of (node_in t (node_among config.now.units.items frame.now.tree node))) at result }
-{
-    match node_at(config, frame, node) {
-        Some(Node::Call(_, arguments)) => element_of(arguments.as_slice(), at),
-        Some(Node::NewWith(_, arguments)) => element_of(arguments.as_slice(), at),
-        _ => None,
-    }
-}
-
 /// The arguments from left to right, and then the call.
 #[cycle(direct)]
 #[inline(always)]
@@ -295,13 +238,6 @@ fn evaluate_arguments<S: WorldStore>(
         room,
         stops,
     )
-}
-
-pub(crate) fn push(values: &mut Vec<Value>, value: Value) -> Result<(), OutOfMemory>
-    ensures { OnOk result (values.new.items ≡ values.old.items ++ value ∷ []) }
-{
-    values.push(value)?;
-    Ok(())
 }
 
 /// The call of an object with its arguments: one that is no function is called by a frame.

@@ -1,24 +1,22 @@
 //! Conditions and commas (ECMA-262, 3rd edition, sections 11.12 and 11.14).
 ghost use Rattle.std.specs.Prelude.{◌≡◌, []};
-ghost use Rattle.wjs_base.specs.Text.{Table, Grows};
-ghost use Rattle.wjs_by_content.specs.Tables.{value_in};
-ghost use Rattle.wjs_meaning.specs.Deeds.{AtExpr, Env, Eval, Ret, then_value};
+ghost use Rattle.wjs_meaning.specs.Deeds.{AtExpr, then_value};
 ghost use Rattle.wjs_meaning.specs.Expressions as line;
 ghost use Rattle.wjs_model.specs.Soundness.{Base, HasValue, IsThere, StandsHere};
 ghost use Rattle.wjs_frames.specs.Following.{Later};
 ghost use Rattle.wjs_stopping.specs.Ends.{gives_in};
 ghost use Rattle.wjs_stopping.specs.Evaluating.{Evaluates, HasOutcome, InMemory};
-ghost use Rattle.wjs_direct.specs.Deeds.{IsNode, form_here, line_here};
+ghost use Rattle.wjs_direct_lines.specs.Deeds.{IsNode, form_here};
 
 use crate::expressions::value;
 use wjs_base::Value;
+use wjs_direct_lines::picked;
 use wjs_model::{Config, ExprPoint, Frame, Point};
-use wjs_step_common::to_boolean;
 use wjs_stopping::{Broken, Stops, waits};
 use wjs_store::WorldStore;
 use wjs_tree::{Node, NodeId};
 
-/// A condition (section 11.12).
+/// A condition (section 11.12): its test, and then the part that the test chooses.
 #[cycle(direct)]
 #[inline(never)]
 pub(crate) fn choice<S: WorldStore>(
@@ -43,7 +41,10 @@ pub(crate) fn choice<S: WorldStore>(
         gives_in result stops.new.waits stops.new.top config.old config.new }
 {
     match value(config, frame, test, room, stops) {
-        Ok(truth) => chosen(config, frame, truth, yes, no, room, stops),
+        Ok(truth) => {
+            let next = picked(config, frame, truth, yes, no);
+            value(config, frame, next, room, stops)
+        }
         Err(end) => {
             let point = Point::Expr(ExprPoint::CondTest(yes, no));
             Err(waits(config, frame, node, point, end, stops))
@@ -51,55 +52,7 @@ pub(crate) fn choice<S: WorldStore>(
     }
 }
 
-/// After the test of a condition.
-#[cycle(direct)]
-fn chosen<S: WorldStore>(
-    config: &mut Config<S>,
-    frame: &Frame,
-    truth: Value,
-    yes: NodeId,
-    no: NodeId,
-    room: u16,
-    stops: &mut Stops,
-) -> Result<Value, Broken>
-    requires base { Base S.meaning config.old }
-    requires there { IsThere S.meaning config.old frame.now }
-    requires empty { stops.old.waits ≡ [] }
-    requires yes { StandsHere config.old frame.now yes }
-    requires no { StandsHere config.old frame.now no }
-    requires value { HasValue config.old truth }
-    ensures later { InMemory result (Later S.meaning config.old config.new) }
-    ensures found { HasOutcome S.meaning HasValue config.new result stops.new.waits stops.new.top }
-    ensures does { Evaluates S.meaning (line_here S.meaning config.old frame.now
-        (λ t env. line.cond_test yes.0 no.0 env (value_in t truth)))
-        gives_in result stops.new.waits stops.new.top config.old config.new }
-{
-    let next = picked(config, frame, truth, yes, no);
-    value(config, frame, next, room, stops)
-}
-
-/// The part of a condition that is entered after its test.
-#[inline(always)]
-fn picked<S: WorldStore>(
-    config: &Config<S>,
-    frame: &Frame,
-    truth: Value,
-    yes: NodeId,
-    no: NodeId,
-) -> NodeId
-    requires base { Base S.meaning config.now }
-    requires yes { StandsHere config.now frame.now yes }
-    requires no { StandsHere config.now frame.now no }
-    requires value { HasValue config.now truth }
-    ensures is { (t : Table) → Grows config.now.heap.texts t → (env : Env) →
-        line.cond_test yes.0 no.0 env (value_in t truth) ≡ Eval (AtExpr result.0) env Ret }
-    ensures stands { StandsHere config.now frame.now result }
-{
-    let _frame = frame;
-    if to_boolean(config, truth) { yes } else { no }
-}
-
-/// One expression and then another (section 11.14).
+/// One expression, whose value is dropped, and then another (section 11.14).
 #[cycle(direct)]
 #[inline(never)]
 pub(crate) fn comma<S: WorldStore>(
@@ -123,34 +76,13 @@ pub(crate) fn comma<S: WorldStore>(
         gives_in result stops.new.waits stops.new.top config.old config.new }
 {
     match value(config, frame, first, room, stops) {
-        Ok(before) => behind(config, frame, before, second, room, stops),
+        Ok(before) => {
+            let _before = before;
+            value(config, frame, second, room, stops)
+        }
         Err(end) => {
             let point = Point::Expr(ExprPoint::CommaLeft(second));
             Err(waits(config, frame, node, point, end, stops))
         }
     }
-}
-
-/// After the first of the two, whose value is dropped.
-#[cycle(direct)]
-fn behind<S: WorldStore>(
-    config: &mut Config<S>,
-    frame: &Frame,
-    before: Value,
-    second: NodeId,
-    room: u16,
-    stops: &mut Stops,
-) -> Result<Value, Broken>
-    requires base { Base S.meaning config.old }
-    requires there { IsThere S.meaning config.old frame.now }
-    requires empty { stops.old.waits ≡ [] }
-    requires second { StandsHere config.old frame.now second }
-    ensures later { InMemory result (Later S.meaning config.old config.new) }
-    ensures found { HasOutcome S.meaning HasValue config.new result stops.new.waits stops.new.top }
-    ensures does { Evaluates S.meaning (line_here S.meaning config.old frame.now
-        (λ t env. line.comma_left second.0 env (value_in t before)))
-        gives_in result stops.new.waits stops.new.top config.old config.new }
-{
-    let _before = before;
-    value(config, frame, second, room, stops)
 }

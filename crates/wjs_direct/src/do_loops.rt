@@ -9,7 +9,7 @@ ghost use Rattle.wjs_model.specs.Contents.{completion_in};
 ghost use Rattle.wjs_model.specs.Soundness.{Base, HasCompletion, HasValue, IsThere, StandsHere};
 ghost use Rattle.wjs_frames.specs.Following.{Later};
 ghost use Rattle.wjs_stopping.specs.Evaluating.{Evaluates, HasOutcome, InMemory};
-ghost use Rattle.wjs_direct.specs.Deeds.{form_here, goal_here, line_here};
+ghost use Rattle.wjs_direct_lines.specs.Deeds.{form_here, goal_here, line_here};
 ghost use Rattle.wjs_direct.specs.Rounds.{GoesRound, HasRound, IsDo, next_in};
 
 use crate::expressions::value;

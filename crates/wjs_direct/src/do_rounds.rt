@@ -8,12 +8,12 @@ ghost use Rattle.wjs_model.specs.Soundness.{Base, HasCompletion, IsThere, Stands
 ghost use Rattle.wjs_frames.specs.Following.{Later};
 ghost use Rattle.wjs_frames.specs.Handling.{Runs, GoesOn, Resumes};
 ghost use Rattle.wjs_stopping.specs.Evaluating.{Evaluates, HasOutcome, InMemory};
-ghost use Rattle.wjs_direct.specs.Deeds.{form_here};
+ghost use Rattle.wjs_direct_lines.specs.Deeds.{form_here};
 ghost use Rattle.wjs_direct.specs.Rounds.{HasDoParts, ends_round};
 
 use crate::do_loops::{asked, iterations};
-use crate::room::ROOM;
 use wjs_base::{NodeId, OutOfMemory};
+use wjs_direct_lines::ROOM;
 use wjs_frames::node_of;
 use wjs_model::{Completion, Config, Frame, Point, StmtPoint};
 use wjs_stopping::{Broken, Stops, finish_end};

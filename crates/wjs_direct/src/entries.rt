@@ -18,13 +18,13 @@ ghost use Rattle.wjs_frames.specs.Handling.{Runs, GoesOn, Begins, Resumes};
 ghost use Rattle.wjs_frames.specs.Parts.{node_now, then_at};
 ghost use Rattle.wjs_stopping.specs.Ends.{gives_in};
 ghost use Rattle.wjs_stopping.specs.Evaluating.{Evaluates, HasOutcome, InMemory};
-ghost use Rattle.wjs_direct.specs.Deeds.{form_here, line_here};
+ghost use Rattle.wjs_direct_lines.specs.Deeds.{form_here, line_here};
 
-use crate::bodies::{body_ended, run_body};
-use crate::room::ROOM;
+use crate::bodies::run_body;
 use crate::statements::{by_form, is_evaluated};
 use wjs_arena::Code;
 use wjs_base::{NodeId, ObjId, OutOfMemory, Value};
+use wjs_direct_lines::{ROOM, body_ended};
 use wjs_effects::{Sequence, dropped, element_at, enter_statement, statement_at_once};
 use wjs_frames::finish;
 use wjs_heap_steps::{code_of, scope_of};

@@ -7,26 +7,23 @@ ghost use Rattle.wjs_model.specs.Soundness.{Base, HasValue, IsThere, StandsHere}
 ghost use Rattle.wjs_frames.specs.Following.{Later};
 ghost use Rattle.wjs_stopping.specs.Ends.{gives_in};
 ghost use Rattle.wjs_stopping.specs.Evaluating.{Evaluates, HasOutcome, InMemory};
-ghost use Rattle.wjs_direct.specs.Deeds.{IsNode, entry_here, form_here, goal_here, line_here};
+ghost use Rattle.wjs_direct_lines.specs.Deeds.{IsNode, entry_here, form_here, goal_here, line_here};
 
 use crate::arrays::array;
 use crate::calls::call;
 use crate::choices::{choice, comma};
-use crate::functions::function;
 use crate::members::{at, dot};
-use crate::names::read;
 use crate::news::new_object;
 use crate::objects::object;
-use crate::prefixes::{is_update, prefix};
-use crate::room::may_enter;
+use crate::prefixes::prefix;
 use crate::stores::{assign, update};
 use wjs_base::Value;
-use wjs_effects::result_at_once;
+use wjs_direct_lines::{function, may_enter, operation, read};
 use wjs_frames::{Part, node_at};
-use wjs_model::{Completion, Config, ExprPoint, Fix, Frame, Held, Phase, Point, Start};
-use wjs_quick::{is_of_value, quick};
+use wjs_model::{Config, ExprPoint, Fix, Frame, Held, Phase, Point, Start};
+use wjs_quick::quick;
 use wjs_step_common::to_boolean;
-use wjs_stopping::{Broken, Stops, stop, stop_holding, waits, waits_holding};
+use wjs_stopping::{Broken, Stops, stop, waits, waits_holding};
 use wjs_store::WorldStore;
 use wjs_tree::{BinaryOperator, Node, NodeId};
 
@@ -78,8 +75,7 @@ fn is_known<S: WorldStore>(config: &Config<S>, frame: &Frame, node: NodeId) -> b
         Some(Node::Dot(_, _) | Node::At(_, _)) => true,
         Some(Node::ObjectLit(_, _) | Node::ArrayLit(_, _)) => true,
         Some(Node::Call(_, _) | Node::NewWith(_, _) | Node::NewBare(_)) => true,
-        Some(Node::Assign(_, _, _) | Node::Postfix(_, _)) => true,
-        Some(Node::Prefix(operator, _)) => is_of_value(*operator) || is_update(*operator),
+        Some(Node::Assign(_, _, _) | Node::Postfix(_, _) | Node::Prefix(_, _)) => true,
         _ => false,
     }
 }
@@ -161,7 +157,7 @@ pub(crate) fn form<S: WorldStore>(
     }
 }
 
-/// An operator between two operands (sections 11.5 to 11.11).
+/// An operator between two operands (sections 11.5 to 11.11): `&&` and `||` may end with the left value.
 #[cycle(direct)]
 pub(crate) fn binary<S: WorldStore>(
     config: &mut Config<S>,
@@ -185,42 +181,15 @@ pub(crate) fn binary<S: WorldStore>(
         gives_in result stops.new.waits stops.new.top config.old config.new }
 {
     match value(config, frame, left, room, stops) {
-        Ok(first) => after_left(config, frame, node, operator, right, first, room, stops),
+        Ok(first) => match operator {
+            BinaryOperator::And => and_right(config, frame, first, right, room, stops),
+            BinaryOperator::Or => or_right(config, frame, first, right, room, stops),
+            _ => both(config, frame, node, operator, right, first, room, stops),
+        },
         Err(end) => {
             let point = Point::Expr(ExprPoint::BinaryLeft(operator, right));
             Err(waits(config, frame, node, point, end, stops))
         }
-    }
-}
-
-/// After the left value: `&&` and `||` may end with it (section 11.11).
-#[cycle(direct)]
-#[inline(always)]
-fn after_left<S: WorldStore>(
-    config: &mut Config<S>,
-    frame: &Frame,
-    node: NodeId,
-    operator: BinaryOperator,
-    right: NodeId,
-    first: Value,
-    room: u16,
-    stops: &mut Stops,
-) -> Result<Value, Broken>
-    requires base { Base S.meaning config.old }
-    requires there { IsThere S.meaning config.old frame.now }
-    requires node { StandsHere config.old frame.now node }
-    requires empty { stops.old.waits ≡ [] }
-    requires right { StandsHere config.old frame.now right }
-    requires value { HasValue config.old first }
-    ensures later { InMemory result (Later S.meaning config.old config.new) }
-    ensures found { HasOutcome S.meaning HasValue config.new result stops.new.waits stops.new.top }
-    ensures does { Evaluates S.meaning (line_here S.meaning config.old frame.now (λ t env. line.binary_left operator right.0 env (value_in t first)))
-        gives_in result stops.new.waits stops.new.top config.old config.new }
-{
-    match operator {
-        BinaryOperator::And => and_right(config, frame, first, right, room, stops),
-        BinaryOperator::Or => or_right(config, frame, first, right, room, stops),
-        _ => both(config, frame, node, operator, right, first, room, stops),
     }
 }
 
@@ -308,39 +277,6 @@ fn both<S: WorldStore>(
             let point = Point::Expr(ExprPoint::BinaryRight(operator));
             let held = Held::Value(first);
             Err(waits_holding(config, frame, node, held, point, end, stops))
-        }
-    }
-}
-
-/// The operation on both; one that asks for a conversion of an object or a look at one is done by a frame.
-#[inline(always)]
-fn operation<S: WorldStore>(
-    config: &mut Config<S>,
-    frame: &Frame,
-    node: NodeId,
-    operator: BinaryOperator,
-    first: Value,
-    second: Value,
-    stops: &mut Stops,
-) -> Result<Value, Broken>
-    requires base { Base S.meaning config.old }
-    requires there { IsThere S.meaning config.old frame.now }
-    requires node { StandsHere config.old frame.now node }
-    requires empty { stops.old.waits ≡ [] }
-    requires left { HasValue config.old first }
-    requires right { HasValue config.old second }
-    ensures later { InMemory result (Later S.meaning config.old config.new) }
-    ensures found { HasOutcome S.meaning HasValue config.new result stops.new.waits stops.new.top }
-    ensures does { Evaluates S.meaning (line_here S.meaning config.old frame.now (λ t env. line.binary_right operator (value_in t first) env (value_in t second)))
-        gives_in result stops.new.waits stops.new.top config.old config.new }
-{
-    let done = result_at_once(config, frame, operator, first, second)?;
-    match done {
-        Some(value) => Ok(value),
-        None => {
-            let point = Point::Expr(ExprPoint::BinaryRight(operator));
-            let phase = Phase::Given(point, Completion::Gives(second));
-            Err(stop_holding(config, frame, node, Held::Value(first), phase, stops))
         }
     }
 }

@@ -8,7 +8,7 @@ ghost use Rattle.wjs_model.specs.Contents.{completion_in};
 ghost use Rattle.wjs_model.specs.Soundness.{Base, HasCompletion, IsThere, StandsHere};
 ghost use Rattle.wjs_frames.specs.Following.{Later};
 ghost use Rattle.wjs_stopping.specs.Evaluating.{Evaluates, HasOutcome, InMemory};
-ghost use Rattle.wjs_direct.specs.Deeds.{IsNode, form_here};
+ghost use Rattle.wjs_direct_lines.specs.Deeds.{IsNode, form_here};
 
 use crate::statements::statement;
 use wjs_base::{NodeId, TextId};

@@ -6,26 +6,20 @@
 
 mod arrays;
 mod bodies;
-mod callees;
 mod calls;
 mod choices;
 mod do_loops;
 mod do_rounds;
 mod entries;
 mod expressions;
-mod functions;
-mod holding;
+mod for_ins;
 mod labels;
 mod loops;
 mod members;
-mod names;
-mod natives;
 mod news;
 mod objects;
+mod operands;
 mod prefixes;
-mod reads;
-mod references;
-mod room;
 mod rounds;
 mod sequences;
 mod statements;
@@ -33,7 +27,6 @@ mod stores;
 mod switches;
 mod targets;
 mod tries;
-mod updates;
 mod variables;
 mod within;
 

@@ -3,7 +3,6 @@ ghost use Rattle.std.specs.Prelude.{◌≡◌, ◌<◌, ◌≤◌, ℕ, IfSome, 
 ghost use Rattle.wjs_base.specs.Text.{Table};
 ghost use Rattle.wjs_by_content.specs.Tables.{value_in};
 ghost use Rattle.wjs_meaning.specs.Deeds.{Again, AtExpr, AtStmt, Env, Sub, then_value};
-ghost use Rattle.wjs_meaning.specs.Expressions.{expr_at};
 ghost use Rattle.wjs_meaning.specs.Loops as loops;
 ghost use Rattle.wjs_meaning.specs.Reading.{number};
 ghost use Rattle.wjs_meaning.specs.Statements.{iteration_from, stmt_at};
@@ -12,14 +11,14 @@ ghost use Rattle.wjs_model.specs.Soundness.{Base, HasCompletion, HasValue, IsThe
 ghost use Rattle.wjs_frames.specs.Following.{Later};
 ghost use Rattle.wjs_stopping.specs.Ends.{gives_in};
 ghost use Rattle.wjs_stopping.specs.Evaluating.{Evaluates, HasOutcome, InMemory};
-ghost use Rattle.wjs_direct.specs.Deeds.{IsNode, entry_here, form_here, goal_here, line_here};
+ghost use Rattle.wjs_direct_lines.specs.Deeds.{IsNode, entry_here, form_here, goal_here, line_here};
 ghost use Rattle.wjs_direct.specs.Rounds.{GoesRound, HasRound, IsLoop, next_in};
 
 use crate::expressions::{form, value};
-use crate::room::may_enter;
 use crate::statements::{statement, statement_form};
 use crate::stores::effect;
 use wjs_base::Value;
+use wjs_direct_lines::may_enter;
 use wjs_loops::{AfterBody, after_body};
 use wjs_model::{Completion, Config, Frame, Phase, Point, Start, StmtPoint};
 use wjs_quick::quick_entered;
@@ -28,7 +27,7 @@ use wjs_stopping::{Broken, Stops, stop, waits};
 use wjs_store::WorldStore;
 use wjs_tree::{ForInit, Node, NodeId};
 
-/// A `for` that begins with an expression.
+/// A `for` that begins with an expression: its iterations come after it, unless it throws.
 #[cycle(direct)]
 pub(crate) fn for_expression<S: WorldStore>(
     config: &mut Config<S>,
@@ -54,45 +53,14 @@ pub(crate) fn for_expression<S: WorldStore>(
         completion_in result stops.new.waits stops.new.top config.old config.new }
 {
     match effect(config, frame, e, room, stops) {
-        Ok(end) => for_begun(config, frame, node, end, test, update, body, room, stops),
+        Ok(end) => match end {
+            Completion::Gives(_) => run_loop(config, frame, node, test, update, body, room, stops),
+            _ => Ok(end),
+        },
         Err(end) => {
             let point = Point::Stmt(StmtPoint::ForFirst);
             Err(waits(config, frame, node, point, end, stops))
         }
-    }
-}
-
-/// After its first expression: the iterations, or what was thrown.
-#[cycle(direct)]
-fn for_begun<S: WorldStore>(
-    config: &mut Config<S>,
-    frame: &Frame,
-    node: NodeId,
-    end: Completion,
-    test: Option<NodeId>,
-    update: Option<NodeId>,
-    body: NodeId,
-    room: u16,
-    stops: &mut Stops,
-) -> Result<Completion, Broken>
-    requires base { Base S.meaning config.old }
-    requires there { IsThere S.meaning config.old frame.now }
-    requires node { StandsHere config.old frame.now node }
-    requires empty { stops.old.waits ≡ [] }
-    requires is { IsLoop S.meaning config.old frame.now node test update body }
-    requires test { StandsIf config.old frame.now test }
-    requires update { StandsIf config.old frame.now update }
-    requires body { StandsHere config.old frame.now body }
-    requires end { HasCompletion config.old end }
-    ensures later { InMemory result (Later S.meaning config.old config.new) }
-    ensures found { HasOutcome S.meaning HasCompletion config.new result stops.new.waits stops.new.top }
-    ensures does { Evaluates S.meaning (line_here S.meaning config.old frame.now
-        (λ t env. then_value (loops.for_started node.0 (number test) (number update) body.0 env) (completion_in t end)))
-        completion_in result stops.new.waits stops.new.top config.old config.new }
-{
-    match end {
-        Completion::Gives(_) => run_loop(config, frame, node, test, update, body, room, stops),
-        _ => Ok(end),
     }
 }
 
@@ -131,7 +99,7 @@ pub(crate) fn run_loop<S: WorldStore>(
     }
 }
 
-/// The first iteration: its test is a part like others.
+/// The first iteration: its test, if it has one, is a part like others.
 #[cycle(direct)]
 fn first<S: WorldStore>(
     config: &mut Config<S>,
@@ -157,42 +125,14 @@ fn first<S: WorldStore>(
         frame.now node result stops.new.waits stops.new.top config.old config.new }
 {
     match test {
-        Some(e) => first_tested(config, frame, node, e, update, body, room, stops),
+        Some(e) => match value(config, frame, e, room, stops) {
+            Ok(truth) => tested(config, frame, node, truth, update, body, room, stops),
+            Err(end) => {
+                let point = Point::Stmt(StmtPoint::ForTest(update, body));
+                Err(waits(config, frame, node, point, end, stops))
+            }
+        },
         None => body_run(config, frame, node, update, body, room, stops),
-    }
-}
-
-/// The test of the first iteration, and what follows it.
-#[cycle(direct)]
-fn first_tested<S: WorldStore>(
-    config: &mut Config<S>,
-    frame: &Frame,
-    node: NodeId,
-    test: NodeId,
-    update: Option<NodeId>,
-    body: NodeId,
-    room: u16,
-    stops: &mut Stops,
-) -> Result<Option<Completion>, Broken>
-    requires base { Base S.meaning config.old }
-    requires there { IsThere S.meaning config.old frame.now }
-    requires node { StandsHere config.old frame.now node }
-    requires empty { stops.old.waits ≡ [] }
-    requires test { StandsHere config.old frame.now test }
-    requires update { StandsIf config.old frame.now update }
-    requires body { StandsHere config.old frame.now body }
-    ensures later { InMemory result (Later S.meaning config.old config.new) }
-    ensures found { HasOutcome S.meaning HasRound config.new result stops.new.waits stops.new.top }
-    ensures does { GoesRound S.meaning (form_here S.meaning config.old frame.now (AtExpr test.0)
-        (λ t env. then_value (loops.loop_test node.0 (number update) body.0 env)))
-        frame.now node result stops.new.waits stops.new.top config.old config.new }
-{
-    match value(config, frame, test, room, stops) {
-        Ok(truth) => tested(config, frame, node, truth, update, body, room, stops),
-        Err(end) => {
-            let point = Point::Stmt(StmtPoint::ForTest(update, body));
-            Err(waits(config, frame, node, point, end, stops))
-        }
     }
 }
 
@@ -279,42 +219,14 @@ fn iteration<S: WorldStore>(
         frame.now node result stops.new.waits stops.new.top config.old config.new }
 {
     match test {
-        Some(e) => next_tested(config, frame, node, e, update, body, room, stops),
+        Some(e) => match entered(config, frame, e, room, stops) {
+            Ok(truth) => tested(config, frame, node, truth, update, body, room, stops),
+            Err(end) => {
+                let point = Point::Stmt(StmtPoint::ForTest(update, body));
+                Err(waits(config, frame, node, point, end, stops))
+            }
+        },
         None => body_entered(config, frame, node, update, body, room, stops),
-    }
-}
-
-/// The test of a later iteration, and what follows it.
-#[cycle(direct)]
-fn next_tested<S: WorldStore>(
-    config: &mut Config<S>,
-    frame: &Frame,
-    node: NodeId,
-    test: NodeId,
-    update: Option<NodeId>,
-    body: NodeId,
-    room: u16,
-    stops: &mut Stops,
-) -> Result<Option<Completion>, Broken>
-    requires base { Base S.meaning config.old }
-    requires there { IsThere S.meaning config.old frame.now }
-    requires node { StandsHere config.old frame.now node }
-    requires empty { stops.old.waits ≡ [] }
-    requires test { StandsHere config.old frame.now test }
-    requires update { StandsIf config.old frame.now update }
-    requires body { StandsHere config.old frame.now body }
-    ensures later { InMemory result (Later S.meaning config.old config.new) }
-    ensures found { HasOutcome S.meaning HasRound config.new result stops.new.waits stops.new.top }
-    ensures does { GoesRound S.meaning (line_here S.meaning config.old frame.now
-        (λ t env. Sub (expr_at test.0 env) (then_value (loops.loop_test node.0 (number update) body.0 env))))
-        frame.now node result stops.new.waits stops.new.top config.old config.new }
-{
-    match entered(config, frame, test, room, stops) {
-        Ok(truth) => tested(config, frame, node, truth, update, body, room, stops),
-        Err(end) => {
-            let point = Point::Stmt(StmtPoint::ForTest(update, body));
-            Err(waits(config, frame, node, point, end, stops))
-        }
     }
 }
 
@@ -440,7 +352,7 @@ fn body_run<S: WorldStore>(
     }
 }
 
-/// After the body: the update, or the loop's end.
+/// After the body: the update, if there is one, or the loop's end.
 #[cycle(direct)]
 #[inline(always)]
 fn body_ended<S: WorldStore>(
@@ -465,35 +377,11 @@ fn body_ended<S: WorldStore>(
         frame.now node result stops.new.waits stops.new.top config.old config.new }
 {
     match after_body(config, frame, node, end) {
-        AfterBody::Again => updated(config, frame, node, update, room, stops),
+        AfterBody::Again => match update {
+            Some(e) => update_run(config, frame, node, e, room, stops),
+            None => Ok(None),
+        },
         AfterBody::Ends(ended) => Ok(Some(ended)),
-    }
-}
-
-/// The update, if there is one.
-#[cycle(direct)]
-fn updated<S: WorldStore>(
-    config: &mut Config<S>,
-    frame: &Frame,
-    node: NodeId,
-    update: Option<NodeId>,
-    room: u16,
-    stops: &mut Stops,
-) -> Result<Option<Completion>, Broken>
-    requires base { Base S.meaning config.old }
-    requires there { IsThere S.meaning config.old frame.now }
-    requires node { StandsHere config.old frame.now node }
-    requires empty { stops.old.waits ≡ [] }
-    requires update { StandsIf config.old frame.now update }
-    ensures later { InMemory result (Later S.meaning config.old config.new) }
-    ensures found { HasOutcome S.meaning HasRound config.new result stops.new.waits stops.new.top }
-    ensures does { GoesRound S.meaning (line_here S.meaning config.old frame.now
-        (λ t env. loops.loop_update node.0 (number update) env))
-        frame.now node result stops.new.waits stops.new.top config.old config.new }
-{
-    match update {
-        Some(e) => update_run(config, frame, node, e, room, stops),
-        None => Ok(None),
     }
 }
 

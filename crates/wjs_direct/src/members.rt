@@ -1,4 +1,4 @@
-//! Members for their value (ECMA-262, 3rd edition, section 11.2.1).
+//! Members for their value (ECMA-262, 3rd edition, sections 8.7.1 and 11.2.1).
 ghost use Rattle.std.specs.Prelude.{◌≡◌, []};
 ghost use Rattle.wjs_by_content.specs.Tables.{value_in};
 ghost use Rattle.wjs_meaning.specs.Deeds.{AtExpr, then_value};
@@ -8,13 +8,12 @@ ghost use Rattle.wjs_model.specs.Soundness.{Base, HasValue, IsThere, StandsHere}
 ghost use Rattle.wjs_frames.specs.Following.{Later};
 ghost use Rattle.wjs_stopping.specs.Ends.{gives_in};
 ghost use Rattle.wjs_stopping.specs.Evaluating.{Evaluates, HasOutcome, InMemory};
-ghost use Rattle.wjs_direct.specs.Deeds.{IsDot, IsNode, form_here, line_here};
+ghost use Rattle.wjs_direct_lines.specs.Deeds.{IsNode, form_here};
 
 use crate::expressions::value;
-use crate::reads::{read_by_name, read_by_value};
 use wjs_base::Value;
+use wjs_direct_lines::{member_by_name, member_by_value};
 use wjs_model::{Config, ExprPoint, Frame, Held, Point, Purpose};
-use wjs_quick::{dotted, indexed};
 use wjs_stopping::{Broken, Stops, waits, waits_holding};
 use wjs_store::WorldStore;
 use wjs_tree::{Node, NodeId, Spelt};
@@ -48,33 +47,6 @@ pub(crate) fn dot<S: WorldStore>(
             let point = Point::Expr(ExprPoint::DotBase(Purpose::Value));
             Err(waits(config, frame, node, point, end, stops))
         }
-    }
-}
-
-/// The member of its base: by a look, where that tells it; else it is read.
-fn member_by_name<S: WorldStore>(
-    config: &mut Config<S>,
-    frame: &Frame,
-    node: NodeId,
-    name: Spelt,
-    object: Value,
-    stops: &mut Stops,
-) -> Result<Value, Broken>
-    requires base { Base S.meaning config.old }
-    requires there { IsThere S.meaning config.old frame.now }
-    requires node { StandsHere config.old frame.now node }
-    requires empty { stops.old.waits ≡ [] }
-    requires is { IsDot S.meaning config.old frame.now node name }
-    requires object { HasValue config.old object }
-    ensures later { InMemory result (Later S.meaning config.old config.new) }
-    ensures found { HasOutcome S.meaning HasValue config.new result stops.new.waits stops.new.top }
-    ensures does { Evaluates S.meaning (line_here S.meaning config.old frame.now
-        (λ t env. line.dot_base (spelt_in t name) env (line.give_value_of env) (value_in t object)))
-        gives_in result stops.new.waits stops.new.top config.old config.new }
-{
-    match dotted(config, frame, object, name) {
-        Some(member) => Ok(member),
-        None => read_by_name(config, frame, node, name, object, stops),
     }
 }
 
@@ -140,32 +112,5 @@ fn index_of_base<S: WorldStore>(
             let held = Held::Value(object);
             Err(waits_holding(config, frame, node, held, point, end, stops))
         }
-    }
-}
-
-/// The member of its base: by a look, where that tells it; else it is read.
-fn member_by_value<S: WorldStore>(
-    config: &mut Config<S>,
-    frame: &Frame,
-    node: NodeId,
-    object: Value,
-    key: Value,
-    stops: &mut Stops,
-) -> Result<Value, Broken>
-    requires base { Base S.meaning config.old }
-    requires there { IsThere S.meaning config.old frame.now }
-    requires node { StandsHere config.old frame.now node }
-    requires empty { stops.old.waits ≡ [] }
-    requires object { HasValue config.old object }
-    requires key { HasValue config.old key }
-    ensures later { InMemory result (Later S.meaning config.old config.new) }
-    ensures found { HasOutcome S.meaning HasValue config.new result stops.new.waits stops.new.top }
-    ensures does { Evaluates S.meaning (line_here S.meaning config.old frame.now
-        (λ t env. line.at_index (value_in t object) env (line.give_value_of env) (value_in t key)))
-        gives_in result stops.new.waits stops.new.top config.old config.new }
-{
-    match indexed(config, frame, object, key) {
-        Some(member) => Ok(member),
-        None => read_by_value(config, frame, node, object, key, stops),
     }
 }

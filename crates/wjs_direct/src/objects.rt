@@ -7,7 +7,7 @@ ghost use Rattle.wjs_frames.specs.Parts.{node_among};
 ghost use Rattle.wjs_literals.specs.Parts.{properties_in};
 ghost use Rattle.wjs_stopping.specs.Ends.{gives_in};
 ghost use Rattle.wjs_stopping.specs.Evaluating.{Evaluates, HasOutcome, InMemory};
-ghost use Rattle.wjs_direct.specs.Deeds.{entry_here, line_here};
+ghost use Rattle.wjs_direct_lines.specs.Deeds.{entry_here, line_here};
 ghost use Rattle.wjs_direct.specs.Literals.{IsObjectLiteral, pairs_left};
 
 use crate::expressions::value;

@@ -8,12 +8,12 @@ ghost use Rattle.wjs_model.specs.Soundness.{Base, HasCompletion, IsThere, Stands
 ghost use Rattle.wjs_frames.specs.Following.{Later};
 ghost use Rattle.wjs_frames.specs.Handling.{Runs, GoesOn, Resumes};
 ghost use Rattle.wjs_stopping.specs.Evaluating.{Evaluates, HasOutcome, InMemory};
-ghost use Rattle.wjs_direct.specs.Deeds.{form_here};
+ghost use Rattle.wjs_direct_lines.specs.Deeds.{form_here};
 ghost use Rattle.wjs_direct.specs.Rounds.{HasParts, ends_round};
 
 use crate::loops::{iterations, update_run};
-use crate::room::ROOM;
 use wjs_base::OutOfMemory;
+use wjs_direct_lines::ROOM;
 use wjs_frames::node_of;
 use wjs_loops::{AfterBody, after_body};
 use wjs_model::{Completion, Config, Frame, Point, StmtPoint};

@@ -10,20 +10,20 @@ ghost use Rattle.wjs_frames.specs.Handling.{Runs, GoesOn};
 ghost use Rattle.wjs_frames.specs.Parts.{node_now};
 ghost use Rattle.wjs_effects.specs.Sequences.{SequenceStands, elements_from, elements_in};
 ghost use Rattle.wjs_stopping.specs.Evaluating.{Evaluates, HasOutcome, InMemory};
-ghost use Rattle.wjs_direct.specs.Deeds.{form_here, line_here};
-ghost use Rattle.wjs_direct.specs.Sequences.{behind};
+ghost use Rattle.wjs_direct_lines.specs.Deeds.{form_here};
+ghost use Rattle.wjs_direct_lines.specs.Sequences.{behind};
 
-use crate::room::ROOM;
 use crate::statements::{by_form, is_evaluated};
 use wjs_base::{NodeId, OutOfMemory};
+use wjs_direct_lines::{ROOM, given};
 use wjs_effects::{
     Reached, Sequence, element_of_sequence, elements_at_once, end_of, enter_statement,
     waiting_point,
 };
 use wjs_frames::finish;
-use wjs_model::{Completion, Config, Frame, Phase};
+use wjs_model::{Completion, Config, Frame};
 use wjs_step_common::number_after;
-use wjs_stopping::{Broken, Stops, finish_end, stop, waits};
+use wjs_stopping::{Broken, Stops, finish_end, waits};
 use wjs_store::WorldStore;
 
 /// The elements of a sequence from one on.
@@ -116,28 +116,4 @@ fn element_by_form<S: WorldStore>(
             Err(waits(config, frame, frame.node(), point, end, stops))
         }
     }
-}
-
-/// The frame is given the end of the element before a number.
-fn given<S: WorldStore>(
-    config: &mut Config<S>,
-    frame: &Frame,
-    kind: Sequence,
-    next: u32,
-    end: Completion,
-    stops: &mut Stops,
-) -> Result<Completion, Broken>
-    requires base { Base S.meaning config.old }
-    requires there { IsThere S.meaning config.old frame.now }
-    requires stands { SequenceStands config.old frame.now kind }
-    requires end { HasCompletion config.old end }
-    requires empty { stops.old.waits ≡ [] }
-    ensures later { InMemory result (Later S.meaning config.old config.new) }
-    ensures found { HasOutcome S.meaning HasCompletion config.new result stops.new.waits stops.new.top }
-    ensures does { Evaluates S.meaning (line_here S.meaning config.old frame.now
-        (λ t env. behind S.meaning config.old frame.now kind next t env (completion_in t end)))
-        completion_in result stops.new.waits stops.new.top config.old config.new }
-{
-    let phase = Phase::Given(waiting_point(kind, next), end);
-    Err(stop(config, frame, frame.node(), phase, stops))
 }

@@ -1,30 +1,31 @@
 //! Statements (ECMA-262, 3rd edition, section 12).
 ghost use Rattle.std.specs.Prelude.{◌≡◌, ◌<◌, ◌≤◌, true, [], drop};
-ghost use Rattle.wjs_by_content.specs.Tables.{value_in};
 ghost use Rattle.wjs_meaning.specs.Deeds.{AtExpr, AtStmt, then_value};
 ghost use Rattle.wjs_model.specs.Contents.{completion_in};
-ghost use Rattle.wjs_model.specs.Soundness.{Base, HasCompletion, HasValue, IsThere, StandsHere, StandsIf};
+ghost use Rattle.wjs_model.specs.Soundness.{Base, HasCompletion, IsThere, StandsHere};
 ghost use Rattle.wjs_frames.specs.Following.{Later};
 ghost use Rattle.wjs_frames.specs.Parts.{node_among};
 ghost use Rattle.wjs_stopping.specs.Evaluating.{Evaluates, HasOutcome, InMemory};
-ghost use Rattle.wjs_direct.specs.Deeds.{IsNode, entry_here, form_here, goal_here, line_here, returned_by};
+ghost use Rattle.wjs_direct_lines.specs.Deeds.{IsNode, entry_here, form_here, goal_here, line_here, returned_by};
 ghost use Rattle.wjs_meaning.specs.Reading.{number, node_in};
 ghost use Rattle.wjs_meaning.specs.Statements as statements;
 ghost use Rattle.wjs_model.specs.Lists.{block_items};
 
 use crate::do_loops::run_do;
 use crate::expressions::value;
+use crate::for_ins::for_in;
 use crate::labels::labelled;
 use crate::loops::{for_expression, run_loop};
-use crate::room::{ROOM, may_enter};
 use crate::stores::effect;
 use crate::switches::switch;
 use crate::tries::{attempt, throw_of};
 use crate::variables::{for_variables, run_variables};
 use crate::within::within;
 use wjs_base::Value;
+use wjs_direct_lines::{ROOM, may_enter};
 use wjs_effects::{Sequence, dropped, statement_at_once, statement_of_block};
 use wjs_frames::node_at;
+use wjs_loops::Taker;
 use wjs_model::{Completion, Config, Frame, Phase, Point, Start, StmtPoint};
 use wjs_step_common::{number_after, to_boolean};
 use wjs_stopping::{Broken, Stops, stop, waits};
@@ -130,6 +131,7 @@ fn is_known<S: WorldStore>(config: &Config<S>, frame: &Frame, node: NodeId) -> b
         }
         Some(Node::Within(_, _) | Node::DoWhile(_, _, _) | Node::Label(_, _)) => true,
         Some(Node::Throw(_, _) | Node::Try(_, _, _) | Node::Switch(_, _)) => true,
+        Some(Node::ForIn(_, _, _) | Node::ForVarIn(_, _, _)) => true,
         _ => false,
     }
 }
@@ -186,6 +188,16 @@ pub(crate) fn statement_form<S: WorldStore>(
         Some(Node::DoWhile(body, test, _)) => {
             let (body, test) = (*body, *test);
             run_do(config, frame, node, body, test, room, stops)
+        }
+        Some(Node::ForIn(t, object, body)) => {
+            let (t, object, body) = (*t, *object, *body);
+            let taker = Taker::Target(t);
+            for_in(config, frame, node, taker, object, body, room, stops)
+        }
+        Some(Node::ForVarIn(name, object, body)) => {
+            let (name, object, body) = (*name, *object, *body);
+            let taker = Taker::Variable(name);
+            for_in(config, frame, node, taker, object, body, room, stops)
         }
         Some(Node::Label(name, part)) => {
             let (name, part) = (*name, *part);
@@ -307,43 +319,19 @@ fn condition<S: WorldStore>(
         completion_in result stops.new.waits stops.new.top config.old config.new }
 {
     match value(config, frame, test, room, stops) {
-        Ok(truth) => chosen(config, frame, truth, yes, no, room, stops),
+        Ok(truth) => {
+            if to_boolean(config, truth) {
+                return statement(config, frame, yes, room, stops);
+            }
+            match no {
+                Some(other) => statement(config, frame, other, room, stops),
+                None => Ok(Completion::Normal),
+            }
+        }
         Err(end) => {
             let point = Point::Stmt(StmtPoint::IfTest(yes, no));
             Err(waits(config, frame, node, point, end, stops))
         }
-    }
-}
-
-/// After the test of an `if`.
-#[cycle(direct)]
-fn chosen<S: WorldStore>(
-    config: &mut Config<S>,
-    frame: &Frame,
-    truth: Value,
-    yes: NodeId,
-    no: Option<NodeId>,
-    room: u16,
-    stops: &mut Stops,
-) -> Result<Completion, Broken>
-    requires base { Base S.meaning config.old }
-    requires there { IsThere S.meaning config.old frame.now }
-    requires empty { stops.old.waits ≡ [] }
-    requires yes { StandsHere config.old frame.now yes }
-    requires no { StandsIf config.old frame.now no }
-    requires value { HasValue config.old truth }
-    ensures later { InMemory result (Later S.meaning config.old config.new) }
-    ensures found { HasOutcome S.meaning HasCompletion config.new result stops.new.waits stops.new.top }
-    ensures does { Evaluates S.meaning (line_here S.meaning config.old frame.now
-        (λ t env. statements.if_test yes.0 (number no) env (value_in t truth)))
-        completion_in result stops.new.waits stops.new.top config.old config.new }
-{
-    if to_boolean(config, truth) {
-        return statement(config, frame, yes, room, stops);
-    }
-    match no {
-        Some(other) => statement(config, frame, other, room, stops),
-        None => Ok(Completion::Normal),
     }
 }
 

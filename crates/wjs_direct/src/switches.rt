@@ -8,9 +8,9 @@ ghost use Rattle.wjs_frames.specs.Following.{Later};
 ghost use Rattle.wjs_frames.specs.Parts.{node_among};
 ghost use Rattle.wjs_step_common.specs.Lists.{clauses_in, statements_of_clauses};
 ghost use Rattle.wjs_stopping.specs.Evaluating.{Evaluates, HasOutcome, InMemory};
-ghost use Rattle.wjs_direct.specs.Deeds.{form_here, line_here};
+ghost use Rattle.wjs_direct_lines.specs.Deeds.{form_here, line_here};
 ghost use Rattle.wjs_direct.specs.Switches.{BeginsAt, DefaultsAt, IsCase, NextCase};
-ghost use Rattle.wjs_direct.specs.Switches.{cases_left, clauses_left, default_left, sought_then, statements_left, switch_end};
+ghost use Rattle.wjs_direct.specs.Switches.{cases_left, clauses_left, sought_then, statements_left, switch_end};
 
 use crate::expressions::value;
 use crate::statements::statement;
@@ -92,7 +92,8 @@ fn cases<S: WorldStore>(
             }
         }
     }
-    run_default(config, frame, node, sought, room, stops)
+    let first = default_at(config, frame, node)?;
+    run_statements(config, frame, node, sought, first, room, stops)
 }
 
 /// The statements of the clauses from the one of a number on.
@@ -117,30 +118,6 @@ fn run_clauses<S: WorldStore>(
         completion_in result stops.new.waits stops.new.top config.old config.new }
 {
     let first = first_statement(config, frame, node, clause as usize)?;
-    run_statements(config, frame, node, sought, first, room, stops)
-}
-
-/// The statements of the clauses from `default` on.
-#[cycle(direct)]
-fn run_default<S: WorldStore>(
-    config: &mut Config<S>,
-    frame: &Frame,
-    node: NodeId,
-    sought: Value,
-    room: u16,
-    stops: &mut Stops,
-) -> Result<Completion, Broken>
-    requires base { Base S.meaning config.old }
-    requires there { IsThere S.meaning config.old frame.now }
-    requires node { StandsHere config.old frame.now node }
-    requires empty { stops.old.waits ≡ [] }
-    requires sought { HasValue config.old sought }
-    ensures later { InMemory result (Later S.meaning config.old config.new) }
-    ensures found { HasOutcome S.meaning HasCompletion config.new result stops.new.waits stops.new.top }
-    ensures does { Evaluates S.meaning (line_here S.meaning config.old frame.now (default_left config.old frame.now node))
-        completion_in result stops.new.waits stops.new.top config.old config.new }
-{
-    let first = default_at(config, frame, node)?;
     run_statements(config, frame, node, sought, first, room, stops)
 }
 

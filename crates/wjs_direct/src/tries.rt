@@ -1,8 +1,8 @@
 //! The statements `throw` and `try` (ECMA-262, 3rd edition, sections 12.13 and 12.14).
-ghost use Rattle.std.specs.Prelude.{◌≡◌, IfSome, Some, []};
+ghost use Rattle.std.specs.Prelude.{◌≡◌, Some, []};
 ghost use Rattle.wjs_base.specs.Text.{Has};
 ghost use Rattle.wjs_by_content.specs.Tables.{text_in, value_in};
-ghost use Rattle.wjs_meaning.specs.Deeds.{AtExpr, AtStmt, Eval, then_value};
+ghost use Rattle.wjs_meaning.specs.Deeds.{AtExpr, AtStmt, then_value};
 ghost use Rattle.wjs_meaning.specs.Reading.{number};
 ghost use Rattle.wjs_meaning.specs.Statements as statements;
 ghost use Rattle.wjs_model.specs.Contents.{completion_in};
@@ -10,19 +10,20 @@ ghost use Rattle.wjs_model.specs.Soundness.{Base, HasCompletion, HasObject, HasV
 ghost use Rattle.wjs_model.specs.Standing.{Stands};
 ghost use Rattle.wjs_frames.specs.Following.{Later};
 ghost use Rattle.wjs_frames.specs.Parts.{node_among};
+ghost use Rattle.wjs_blocks.specs.Tries.{catch_in};
 ghost use Rattle.wjs_stopping.specs.Evaluating.{Evaluates, HasOutcome, InMemory};
-ghost use Rattle.wjs_direct.specs.Deeds.{form_here, goal_here, line_here};
-ghost use Rattle.wjs_direct.specs.Tries.{IsCaught, catch_in, caught_here, ended_by, last_by, thrown_by};
+ghost use Rattle.wjs_direct_lines.specs.Deeds.{form_here, goal_here, line_here};
+ghost use Rattle.wjs_direct.specs.Tries.{IsCaught, caught_here, ended_by, last_by, thrown_by};
 
 use crate::statements::statement;
 use crate::stores::effect;
 use wjs_base::{ObjId, Value};
-use wjs_frames::node_at;
+use wjs_blocks::handler_at;
 use wjs_heap_steps::{create_scope, name_of, write};
 use wjs_model::{Completion, Config, Frame, Held, Point, StmtPoint};
 use wjs_stopping::{Broken, Stops, waits, waits_holding};
 use wjs_store::WorldStore;
-use wjs_tree::{Handler, Node, NodeId};
+use wjs_tree::{Handler, NodeId};
 
 /// A `throw` (section 12.13).
 #[cycle(direct)]
@@ -87,7 +88,10 @@ pub(crate) fn attempt<S: WorldStore>(
         completion_in result stops.new.waits stops.new.top config.old config.new }
 {
     match attempted(config, frame, block, room, stops) {
-        Ok(end) => block_ended(config, frame, node, last, end, room, stops),
+        Ok(end) => match end {
+            Completion::Throws(error) => caught(config, frame, node, last, error, room, stops),
+            _ => lastly(config, frame, node, last, end, room, stops),
+        },
         Err(end) => {
             let point = Point::Stmt(StmtPoint::TryBlock(last));
             Err(waits(config, frame, node, point, end, stops))
@@ -129,47 +133,6 @@ fn ended(done: Result<Completion, Broken>) -> Result<Completion, Broken>
     }
 }
 
-/// After the block: a throw goes to the handler, and each other completion to the `finally`.
-#[cycle(direct)]
-fn block_ended<S: WorldStore>(
-    config: &mut Config<S>,
-    frame: &Frame,
-    node: NodeId,
-    last: Option<NodeId>,
-    end: Completion,
-    room: u16,
-    stops: &mut Stops,
-) -> Result<Completion, Broken>
-    requires base { Base S.meaning config.old }
-    requires there { IsThere S.meaning config.old frame.now }
-    requires node { StandsHere config.old frame.now node }
-    requires empty { stops.old.waits ≡ [] }
-    requires last { StandsIf config.old frame.now last }
-    requires end { HasCompletion config.old end }
-    ensures later { InMemory result (Later S.meaning config.old config.new) }
-    ensures found { HasOutcome S.meaning HasCompletion config.new result stops.new.waits stops.new.top }
-    ensures does { Evaluates S.meaning (line_here S.meaning config.old frame.now
-        (λ t env. caught_here config.old frame.now node last t env (completion_in t end)))
-        completion_in result stops.new.waits stops.new.top config.old config.new }
-{
-    match end {
-        Completion::Throws(error) => caught(config, frame, node, last, error, room, stops),
-        _ => lastly(config, frame, node, last, end, room, stops),
-    }
-}
-
-/// The handler of a `try`; None where it has none, and of every other node.
-fn handler_at<S: WorldStore>(config: &Config<S>, frame: &Frame, node: NodeId) -> Option<Handler>
-    requires { Base S.meaning config.now }
-    ensures is { result ≡ catch_in (node_among config.now.units.items frame.now.tree node) }
-    ensures known { IfSome result (λ handler. Has config.now.heap.texts handler.name) }
-{
-    match node_at(config, frame, node) {
-        Some(Node::Try(_, handler, _)) => *handler,
-        _ => None,
-    }
-}
-
 /// What was thrown goes to the handler; without one it is an end like every other.
 #[cycle(direct)]
 fn caught<S: WorldStore>(
@@ -202,7 +165,7 @@ fn caught<S: WorldStore>(
     }
 }
 
-/// The handler: its scope, with the name of what was thrown, and its block in it.
+/// The handler: its scope, with the name of what was thrown, its block in it, and then the `finally`.
 #[cycle(direct)]
 #[inline(never)]
 fn catch<S: WorldStore>(
@@ -232,35 +195,7 @@ fn catch<S: WorldStore>(
     let scope = create_scope(config, frame.scope())?;
     let name = name_of(config, handler.name);
     write(config, frame, scope, name, error)?;
-    handled(config, frame, node, handler.block, scope, last, room, stops)
-}
-
-/// The block of a handler in its scope, and then the `finally`.
-#[cycle(direct)]
-fn handled<S: WorldStore>(
-    config: &mut Config<S>,
-    frame: &Frame,
-    node: NodeId,
-    block: NodeId,
-    scope: ObjId,
-    last: Option<NodeId>,
-    room: u16,
-    stops: &mut Stops,
-) -> Result<Completion, Broken>
-    requires base { Base S.meaning config.old }
-    requires there { IsThere S.meaning config.old frame.now }
-    requires node { StandsHere config.old frame.now node }
-    requires empty { stops.old.waits ≡ [] }
-    requires scope { HasObject config.old scope }
-    requires block { Stands config.old.units.items config.old.heap.arena frame.now.tree block scope 0 }
-    requires last { StandsIf config.old frame.now last }
-    ensures later { InMemory result (Later S.meaning config.old config.new) }
-    ensures found { HasOutcome S.meaning HasCompletion config.new result stops.new.waits stops.new.top }
-    ensures does { Evaluates S.meaning (line_here S.meaning config.old frame.now
-        (λ t env. Eval (AtStmt block.0) (record env { scope = scope }) (statements.try_finally (number last) env)))
-        completion_in result stops.new.waits stops.new.top config.old config.new }
-{
-    match in_scope(config, frame, block, scope, room, stops) {
+    match in_scope(config, frame, handler.block, scope, room, stops) {
         Ok(end) => lastly(config, frame, node, last, end, room, stops),
         Err(end) => {
             let point = Point::Stmt(StmtPoint::TryHandler(last));
@@ -297,7 +232,8 @@ fn in_scope<S: WorldStore>(
     done
 }
 
-/// After the block, or the handler: the `finally`, if there is one.
+/// After the block, or the handler: the `finally`, if there is one, whose completion replaces the earlier one where it is not normal; where
+/// it stops, its node holds the earlier one.
 #[cycle(direct)]
 fn lastly<S: WorldStore>(
     config: &mut Config<S>,
@@ -320,41 +256,15 @@ fn lastly<S: WorldStore>(
         completion_in result stops.new.waits stops.new.top config.old config.new }
 {
     match last {
-        Some(s) => finish_by(config, frame, node, s, end, room, stops),
+        Some(s) => match statement(config, frame, s, room, stops) {
+            Ok(after) => Ok(last_end(end, after)),
+            Err(broken) => {
+                let point = Point::Stmt(StmtPoint::TryFinally);
+                let held = Held::Earlier(end);
+                Err(waits_holding(config, frame, node, held, point, broken, stops))
+            }
+        },
         None => Ok(end),
-    }
-}
-
-/// The `finally`, whose completion replaces the earlier one where it is not normal; where it stops, its node holds the earlier one.
-#[cycle(direct)]
-fn finish_by<S: WorldStore>(
-    config: &mut Config<S>,
-    frame: &Frame,
-    node: NodeId,
-    s: NodeId,
-    earlier: Completion,
-    room: u16,
-    stops: &mut Stops,
-) -> Result<Completion, Broken>
-    requires base { Base S.meaning config.old }
-    requires there { IsThere S.meaning config.old frame.now }
-    requires node { StandsHere config.old frame.now node }
-    requires empty { stops.old.waits ≡ [] }
-    requires part { StandsHere config.old frame.now s }
-    requires earlier { HasCompletion config.old earlier }
-    ensures later { InMemory result (Later S.meaning config.old config.new) }
-    ensures found { HasOutcome S.meaning HasCompletion config.new result stops.new.waits stops.new.top }
-    ensures does { Evaluates S.meaning (form_here S.meaning config.old frame.now (AtStmt s.0)
-        (λ t env. statements.finally_done (completion_in t earlier)))
-        completion_in result stops.new.waits stops.new.top config.old config.new }
-{
-    match statement(config, frame, s, room, stops) {
-        Ok(end) => Ok(last_end(earlier, end)),
-        Err(end) => {
-            let point = Point::Stmt(StmtPoint::TryFinally);
-            let held = Held::Earlier(earlier);
-            Err(waits_holding(config, frame, node, held, point, end, stops))
-        }
     }
 }
 

@@ -4,15 +4,14 @@ ghost use Rattle.wjs_by_content.specs.Tables.{value_in};
 ghost use Rattle.wjs_meaning.specs.Deeds.{AtExpr, then_value};
 ghost use Rattle.wjs_meaning.specs.Statements as statements;
 ghost use Rattle.wjs_model.specs.Contents.{completion_in};
-ghost use Rattle.wjs_model.specs.Soundness.{Base, HasCompletion, HasValue, HasWorld, IsThere, StandsHere};
-ghost use Rattle.wjs_model.specs.Standing.{IsShown};
+ghost use Rattle.wjs_model.specs.Soundness.{Base, HasCompletion, HasValue, IsThere, StandsHere};
 ghost use Rattle.wjs_frames.specs.Following.{Later};
 ghost use Rattle.wjs_stopping.specs.Evaluating.{Evaluates, HasOutcome, InMemory};
-ghost use Rattle.wjs_direct.specs.Deeds.{IsNode, form_here, line_here};
+ghost use Rattle.wjs_direct_lines.specs.Deeds.{IsNode, form_here, line_here};
 
 use crate::expressions::value;
 use crate::statements::statement;
-use wjs_base::{NodeId, Value, WorldId};
+use wjs_base::{NodeId, Value};
 use wjs_heap_steps::world_at;
 use wjs_model::{Completion, Config, Frame, Phase, Point, StmtPoint};
 use wjs_stopping::{Broken, Stops, stop, waits};
@@ -51,7 +50,8 @@ pub(crate) fn within<S: WorldStore>(
     }
 }
 
-/// After the value: the block in its world. What stands for no world that is there is left to a frame.
+/// After the value: the block in its world, in a frame of its own; nothing is set back after it. What stands for no world that is there is
+/// left to a frame.
 #[cycle(direct)]
 fn opened<S: WorldStore>(
     config: &mut Config<S>,
@@ -76,40 +76,17 @@ fn opened<S: WorldStore>(
 {
     let found = world_at(config, given)?;
     match found {
-        Some(world) => inside(config, frame, block, world, room, stops),
+        Some(world) => {
+            let mut inner = config.frames.begun(frame, block)?;
+            inner.set_world(world);
+            let done = statement(config, &inner, block, room, stops);
+            config.frames.spare(inner);
+            done
+        }
         None => {
             let point = Point::Stmt(StmtPoint::WithinWorld(block));
             let phase = Phase::Given(point, Completion::Gives(given));
             Err(stop(config, frame, node, phase, stops))
         }
     }
-}
-
-/// The block in a world, in a frame of its own; nothing is set back after it.
-#[cycle(direct)]
-fn inside<S: WorldStore>(
-    config: &mut Config<S>,
-    frame: &Frame,
-    block: NodeId,
-    world: WorldId,
-    room: u16,
-    stops: &mut Stops,
-) -> Result<Completion, Broken>
-    requires base { Base S.meaning config.old }
-    requires there { IsThere S.meaning config.old frame.now }
-    requires empty { stops.old.waits ≡ [] }
-    requires block { StandsHere config.old frame.now block }
-    requires world { HasWorld S.meaning config.old world }
-    requires shown { IsShown config.old.heap.arena world }
-    ensures later { InMemory result (Later S.meaning config.old config.new) }
-    ensures found { HasOutcome S.meaning HasCompletion config.new result stops.new.waits stops.new.top }
-    ensures does { Evaluates S.meaning (line_here S.meaning config.old frame.now
-        (λ t env. statements.within_world block.0 env world))
-        completion_in result stops.new.waits stops.new.top config.old config.new }
-{
-    let mut inner = config.frames.begun(frame, block)?;
-    inner.set_world(world);
-    let done = statement(config, &inner, block, room, stops);
-    config.frames.spare(inner);
-    done
 }

@@ -14,3 +14,4 @@ pub mod StandingElements
 pub mod StandingFors
 pub mod Declared
 pub mod StandingVariables
+pub mod Telling

@@ -1,23 +1,19 @@
 -- The lines of statements, targets and `++`, at the nodes that stand there.
-use Rattle.std.proofs.Common.{◌≡◌, Bool, true, false, Option, List, [], ◌∷◌, None, Some, Ok, Result, ℕ, suc, ◌<◌, lit<, length, refl, sym, ap, ◌∙◌, subst, arith}
+use Rattle.std.proofs.Common.{◌≡◌, Bool, true, false, Option, List, [], ◌∷◌, None, Some, Ok, ℕ, suc, ◌<◌, lit<, length, refl, sym, ap, ◌∙◌, subst, arith}
 use Rattle.std.specs.Prelude.{map, slice_get}
 use Rattle.wjs_base.specs.declared.ids.TextId.{TextId}
 use Rattle.wjs_base.specs.Text.{Table}
-use Rattle.wjs_num.specs.declared.arithmetic.NumFault.{NumFault}
 use Rattle.wjs_store.specs.Meaning.{Meaning}
 use Rattle.wjs_tree.specs.declared.node.Declarator.{Declarator}
 use Rattle.wjs_base.specs.declared.ids.NodeId.{NodeId}
 use Rattle.wjs_tree.specs.declared.node.Node.{Node}
 use Rattle.wjs_tree.specs.declared.operators.UpdateOperator.{UpdateOperator}
 use Rattle.wjs_scope.specs.Places.{declarator_names}
-use Rattle.wjs_by_content.specs.Conversions.{is_nullish, is_object, primitive_text, to_boolean}
+use Rattle.wjs_by_content.specs.Conversions.{to_boolean}
 use Rattle.wjs_by_content.specs.Tables.{text_in}
-use Rattle.wjs_by_content.specs.Values.{Text, Whole, Value, Number}
-use Rattle.wjs_meaning.specs.declared.trouble.Trouble.TheVariants.{NotAnObject}
-use Rattle.wjs_meaning.specs.Conversions.{to_text}
-use Rattle.wjs_meaning.specs.Deeds.{Env, AtStmt, AtTarget, Completion, Gives, Refers, Normal, Breaks, Continues, Returns, Throws, Reference, Member, Act, Ret, Eval, Sub, then_normal, then_text, give}
-use Rattle.wjs_meaning.specs.Errors.{throw}
-use Rattle.wjs_meaning.specs.Expressions.{Fix, dot_base, at_name, at_index, target_of, given, updated, update_value, update_number, update_store}
+use Rattle.wjs_by_content.specs.Values.{Whole, Value, Number}
+use Rattle.wjs_meaning.specs.Deeds.{Env, AtStmt, AtTarget, Completion, Gives, Refers, Normal, Breaks, Continues, Returns, Throws, Reference, Act, Ret, Eval, then_normal, give}
+use Rattle.wjs_meaning.specs.Expressions.{Fix, target_of, given, updated, update_value, update_number, update_store}
 use Rattle.wjs_meaning.specs.Programs.{entry}
 use Rattle.wjs_meaning.specs.Reading.{node_in, number, numbers, variable_in}
 use Rattle.wjs_meaning.specs.References.{store}
@@ -26,11 +22,10 @@ use Rattle.wjs_model.specs.declared.config.Config.{Config}
 use Rattle.wjs_model.specs.declared.frame.Activation.{Activation as Frame}
 use Rattle.wjs_model.specs.Soundness.{HasLabel}
 use Rattle.wjs_model.specs.Texts.{HasText}
-use Rattle.wjs_model.specs.Waiting.{refer}
 use Rattle.wjs_frames.specs.Parts.{env_in, node_among}
 use Rattle.wjs_frames.specs.Shortening.{Shortens}
 use Rattle.wjs_frames.proofs.Places.{node_same}
-use Rattle.wjs_step_common.proofs.Converting.{number_shortens, text_shortens}
+use Rattle.wjs_step_common.proofs.Converting.{number_shortens}
 
 module _ {S : Type 0} (meaning : S → Meaning) (c : Config S) (f : Frame) (id : NodeId) where
   pub stmt_is : (n : Node) (t : Table) → node_among c.units.items f.tree id ≡ n → entry (AtStmt id.0) (env_in meaning c t f) ≡ stmt_of id.0 (node_in t n) (env_in meaning c t f)
@@ -38,20 +33,6 @@ module _ {S : Type 0} (meaning : S → Meaning) (c : Config S) (f : Frame) (id :
 
   pub target_is : (n : Node) (t : Table) → node_among c.units.items f.tree id ≡ n → entry (AtTarget id.0) (env_in meaning c t f) ≡ target_of id.0 (node_in t n) (env_in meaning c t f)
   target_is n t is = ap (λ node. target_of id.0 node (env_in meaning c t f)) (node_same t c.units.items f.tree id ∙ ap (node_in t) is)
-
--- ---- targets
-
--- a member by name of a base that has members
-pub dot_refers : (base : Value) (name text : Text) (env : Env) → is_nullish base ≡ false → name ≡ text → dot_base text env refer base ≡ refer (Member base name)
-dot_refers base name text env e n = ap (λ (b : Bool). elim b [ true ↦ throw NotAnObject env | false ↦ refer (Member base text) ]) e ∙ ap (λ (x : Text). refer (Member base x)) (sym n)
-
--- and by the text of a primitive
-pub at_refers : (base key : Value) (name : Text) (env : Env) → is_nullish base ≡ false → is_object key ≡ false → primitive_text key ≡ name → Shortens (at_index base env refer key) (refer (Member base name))
-at_refers base key name env e p n =
-    let to = at_name base refer in
-    let is : at_index base env refer key ≡ Sub (to_text key env) (then_text to) = ap (λ (b : Bool). elim b [ true ↦ throw NotAnObject env | false ↦ Sub (to_text key env) (then_text to) ]) e in
-    subst (λ (x : Text). Shortens (at_index base env refer key) (refer (Member base x))) n
-    (subst (λ (a : Act). Shortens a (refer (Member base (primitive_text key)))) (sym is) (text_shortens key env to p))
 
 -- ---- statements
 
@@ -106,9 +87,10 @@ module _ (l : List Declarator) (d : Declarator) (is : l ≡ d ∷ []) where
 
 -- ---- `++` and `--`
 
--- of a number whose next one is a number
+-- a number that has a next one
+pub update_stores : (fix : Fix) (op : UpdateOperator) (env : Env) (r : Reference) (x y told : Whole) → updated op x ≡ Ok y → told ≡ given fix x y → update_number fix op env r x ≡ store r (Number y) env (give (Number told))
+update_stores fix op env r x y told e is = ap (λ next. update_store fix env r x next) e ∙ ap (λ (z : Whole). store r (Number y) env (give (Number z))) (sym is)
+
 pub update_shortens : (fix : Fix) (op : UpdateOperator) (env : Env) (r : Reference) (x y told : Whole) → updated op x ≡ Ok y → told ≡ given fix x y → Shortens (update_value fix op env r (Number x)) (store r (Number y) env (give (Number told)))
 update_shortens fix op env r x y told e is =
-    let P : Result Whole NumFault → Type 0 = λ next. Shortens (update_value fix op env r (Number x)) (update_store fix env r x next) in
-    let Q : Whole → Type 0 = λ z. Shortens (update_value fix op env r (Number x)) (store r (Number y) env (give (Number z))) in
-    subst Q (sym is) (subst P e (number_shortens (Number x) env (update_number fix op env r) refl))
+    subst (λ (a : Act). Shortens (update_value fix op env r (Number x)) a) (update_stores fix op env r x y told e is) (number_shortens (Number x) env (update_number fix op env r) refl)

@@ -38,7 +38,7 @@ module _ (env : Env) (k : Value → Act) (go : Completion → Act) where
   defined_goes name None = shorten_deed _ _ go
   defined_goes name (Some v) = shorten_same (Sub (k v) go)
 
-  property_goes : (o : ObjId) (name : Text) → Shortens (Sub (get_value o name env k) go) (get_value o name env (λ v. Sub (k v) go))
+  pub property_goes : (o : ObjId) (name : Text) → Shortens (Sub (get_value o name env k) go) (get_value o name env (λ v. Sub (k v) go))
   property_goes o name = shorten_trans _ _ _ (shorten_deed _ _ go) (shorten_do _ _ _ (λ arena. shorten_plan _ _ _ go))
 
   length_goes : (text name : Text) (b : Bool) → Shortens (Sub (elim b [ true ↦ k (whole (length text)) | false ↦ get_value (class_prototype (String text)) name env k ]) go) (elim b [ true ↦ Sub (k (whole (length text))) go | false ↦ get_value (class_prototype (String text)) name env (λ v. Sub (k v) go) ])

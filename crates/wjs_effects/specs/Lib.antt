@@ -6,3 +6,4 @@ pub mod Proceeding
 pub mod Only
 pub mod Sequences
 pub mod Variables
+pub mod Telling

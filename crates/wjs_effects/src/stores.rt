@@ -14,7 +14,7 @@ ghost use Rattle.wjs_model.specs.Soundness.{Base, IsThere, HasCompletion, HasRef
 ghost use Rattle.wjs_model.specs.Waiting.{fix_in};
 ghost use Rattle.wjs_frames.specs.Following.{Later};
 ghost use Rattle.wjs_frames.specs.Parts.{env_in};
-ghost use Rattle.wjs_effects.specs.Effects.{assigns, updates, EndsOrThrows};
+ghost use Rattle.wjs_effects.specs.Effects.{assigns, updates};
 ghost use Rattle.wjs_effects.specs.Forms.{storing_in};
 ghost use Rattle.wjs_effects.specs.Leaving.{ActLeaves, ActEnds, GoalEnds};
 ghost use Rattle.wjs_effects.specs.Making.{HasMade};
@@ -277,7 +277,7 @@ fn update<S: WorldStore>(
 /// After the target of `++` or `--`, with so many steps left; None, and nothing changed, where a look tells no value of it, or one that is
 /// no number or has no next one.
 #[inline(always)]
-pub fn update_at<S: WorldStore>(
+fn update_at<S: WorldStore>(
     config: &mut Config<S>,
     frame: &Frame,
     fix: Fix,
@@ -293,7 +293,6 @@ pub fn update_at<S: WorldStore>(
         (λ t env. line.update_reference (fix_in fix) operator env (reference_in t reference)) e config.old frame.now left config.new)) }
     ensures later { OnOk result (Later S.meaning config.old config.new) }
     ensures found { IfOk result (λ done. IfSome done (λ e. HasCompletion config.new e)) }
-    ensures ends { IfOk result (λ done. IfSome done (λ e. (told : Whole) × EndsOrThrows (Completion.Gives (Value.Number told)) e)) }
 {
     match update_of(config, frame, fix, operator, reference) {
         Some(counted) => {

@@ -4,7 +4,7 @@
 ghost use Rattle.std.specs.Prelude.{IfSome};
 ghost use Rattle.wjs_base.specs.Text.{Table, Grows};
 ghost use Rattle.wjs_by_content.specs.Tables.{value_in};
-ghost use Rattle.wjs_meaning.specs.Deeds.{Env, Eval, AtExpr, AtTarget, then_value};
+ghost use Rattle.wjs_meaning.specs.Deeds.{Act, Env, Eval, AtExpr, AtTarget, Reference as MeantReference, then_value};
 ghost use Rattle.wjs_meaning.specs.Expressions as line;
 ghost use Rattle.wjs_meaning.specs.Programs.{entry};
 ghost use Rattle.wjs_meaning.specs.Reading.{spelt_in};
@@ -109,7 +109,7 @@ fn at<S: WorldStore>(
     index_reference(config, object, key)
 }
 
-/// The member of a base by a name; None of undefined and null.
+/// The member of a base by a name, whatever its reference is for; None of undefined and null.
 #[inline(always)]
 pub fn dot_reference<S: WorldStore>(
     config: &Config<S>,
@@ -119,8 +119,8 @@ pub fn dot_reference<S: WorldStore>(
     requires base { Base S.meaning config.now }
     requires value { HasValue config.now base }
     requires name { KnowsSpelt config.now.heap.texts name }
-    ensures ends { IfSome result (λ r. (t : Table) → Grows config.now.heap.texts t → (env : Env) →
-        Shortens (line.dot_base (spelt_in t name) env refer (value_in t base)) (refer (reference_in t r))) }
+    ensures ends { IfSome result (λ r. (t : Table) → Grows config.now.heap.texts t → (env : Env) → (go : MeantReference → Act) →
+        Shortens (line.dot_base (spelt_in t name) env go (value_in t base)) (go (reference_in t r))) }
     ensures found { IfSome result (λ r. HasReference config.now r) }
 {
     if is_nullish(base) {
@@ -142,8 +142,8 @@ pub fn index_reference<S: WorldStore>(
     requires base { Base S.meaning config.now }
     requires value { HasValue config.now base }
     requires key { HasValue config.now key }
-    ensures ends { IfSome result (λ r. (t : Table) → Grows config.now.heap.texts t → (env : Env) →
-        Shortens (line.at_index (value_in t base) env refer (value_in t key)) (refer (reference_in t r))) }
+    ensures ends { IfSome result (λ r. (t : Table) → Grows config.now.heap.texts t → (env : Env) → (go : MeantReference → Act) →
+        Shortens (line.at_index (value_in t base) env go (value_in t key)) (go (reference_in t r))) }
     ensures found { IfSome result (λ r. HasReference config.now r) }
 {
     if is_nullish(base) {

@@ -27,7 +27,7 @@ pub use looks::{
 pub use makes::{
     builtin, create, create_array, create_plain, create_scope, create_wrapper, object_of, one_fixed,
 };
-pub use operands::{name_completion, operand_completion};
+pub use operands::{name_completion, operand_completion, reference_completion};
 pub use output::emit;
 pub use peeks::{peek_member, peek_operand, peek_target, peek_value_of, peek_word};
 pub use properties::{delete, get, get_value, has, put, visits};

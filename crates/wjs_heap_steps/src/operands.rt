@@ -1,11 +1,11 @@
-//! The completions of literals, `this` and names (ECMA-262, 3rd edition, sections 11.1.1 to 11.1.3).
+//! The completions of literals, `this`, names and references (ECMA-262, 3rd edition, sections 8.7.1 and 11.1.1 to 11.1.3).
 ghost use Rattle.std.specs.Prelude.{◌≡◌, IfOk, OnOk};
 ghost use Rattle.wjs_base.specs.Text.{Has};
 ghost use Rattle.wjs_by_content.specs.Tables.{name_in, text_in};
 ghost use Rattle.wjs_meaning.specs.Deeds.{Gives, Local, Global};
-ghost use Rattle.wjs_model.specs.Contents.{completion_in, operand_in};
+ghost use Rattle.wjs_model.specs.Contents.{completion_in, operand_in, reference_in};
 ghost use Rattle.wjs_model.specs.Operands.{evaluated, named, with_operand};
-ghost use Rattle.wjs_model.specs.Soundness.{Base, IsThere, HasCompletion, HasName, HasObject, HasOperand};
+ghost use Rattle.wjs_model.specs.Soundness.{Base, IsThere, HasCompletion, HasName, HasObject, HasOperand, HasReference};
 ghost use Rattle.wjs_model.specs.Units.{place_in};
 ghost use Rattle.wjs_frames.specs.Doing.{Does};
 ghost use Rattle.wjs_frames.specs.Following.{Later};
@@ -63,6 +63,25 @@ pub fn name_completion<S: WorldStore>(
     ensures ends { IfOk result (λ completion. GivesOrThrows completion) }
 {
     let reference = reference_at(config, frame, place, id);
+    reference_completion(config, frame, reference)
+}
+
+/// The value of a reference, or what its read throws; OutOfMemory where memory ran out (ECMA-262, 3rd edition, section 8.7.1).
+#[inline(always)]
+pub fn reference_completion<S: WorldStore>(
+    config: &mut Config<S>,
+    frame: &Frame,
+    reference: Reference,
+) -> Result<Completion, OutOfMemory>
+    requires base { Base S.meaning config.old }
+    requires there { IsThere S.meaning config.old frame.now }
+    requires reference { HasReference config.old reference }
+    ensures does { IfOk result (λ completion. Does S.meaning (λ t. evaluated (reference_in t reference) (env_in S.meaning config.old t frame.now))
+        (λ t. completion_in t completion) config.old config.new) }
+    ensures later { OnOk result (Later S.meaning config.old config.new) }
+    ensures found { IfOk result (λ completion. HasCompletion config.new completion) }
+    ensures ends { IfOk result (λ completion. GivesOrThrows completion) }
+{
     match reference {
         Reference::Local(scope, name) => local_completion(config, frame, scope, name),
         Reference::Global(name) => global_completion(config, frame, name),

@@ -49,11 +49,11 @@ taken_by_none t _ go q = refl
 
 module _ (t : Table) (here : ℕ) (held : Holding) (env : Env) (node : NumberedNode) (taker : Taker) (s : NodeId) (is : taker_of node ≡ Some taker) where
   -- for the body of a visit
-  body_waits : after (points.Stmt (stmts.VisitBody s)) here (node_in t node) held env ≡ after_body here env (visits_from here (taker_in t taker) s.0 held.visits env)
+  pub body_waits : after (points.Stmt (stmts.VisitBody s)) here (node_in t node) held env ≡ after_body here env (visits_from here (taker_in t taker) s.0 held.visits env)
   body_waits = λ i c. taken_by t node taker (λ k. after_body here env (visits_from here k s.0 held.visits env) c) is i
 
   -- for the target of a visit
-  target_waits : after (points.Stmt (stmts.VisitTarget s)) here (node_in t node) held env ≡ then_reference (visit_taken here (taker_in t taker) s.0 held.visits env)
+  pub target_waits : after (points.Stmt (stmts.VisitTarget s)) here (node_in t node) held env ≡ then_reference (visit_taken here (taker_in t taker) s.0 held.visits env)
   target_waits = λ i. then_reference (λ r. taken_by t node taker (λ k. visit_taken here k s.0 held.visits env r) is i)
 
 module _ {S : Type 0} (meaning : S → Meaning) where
@@ -114,7 +114,7 @@ module _ {S : Type 0} (meaning : S → Meaning) where
         → OnOk r (Follows meaning (visit_goes g.node.0 (taker_in texts taker) s.0 (option_map (λ (x : NumberedSlot). name_in texts x.name) o) left (env_in meaning mid texts g)) mid later) → OnOk r (Follows meaning (visits_from f.node.0 (taker_in texts taker) s.0 (holding_in texts f.held).visits env) old later)
     reached_follows found o x e h =
         let P : Act → Type 0 = λ act. OnOk r (Follows meaning act mid later) in
-        x.by f.node.0 (taker_in texts taker) s.0 later r (subst P
+        x.by f.node.0 (taker_in texts taker) s.0 None later r (subst P
         (ap (λ (here : ℕ). visit_goes here (taker_in texts taker) s.0 (option_map (λ (x : NumberedSlot). name_in texts x.name) o) left (env_in meaning mid texts g)) (λ i. (eg i).node.0)
         ∙ ap (λ (e : Env). visit_goes f.node.0 (taker_in texts taker) s.0 (option_map (λ (x : NumberedSlot). name_in texts x.name) o) left e) (env_moved old mid texts f g l eg)
         ∙ ap (λ (p : Option NumberedSlot). visit_goes f.node.0 (taker_in texts taker) s.0 (option_map (λ (x : NumberedSlot). name_in texts x.name) p) left env) (sym e)) h)
@@ -124,13 +124,13 @@ module _ {S : Type 0} (meaning : S → Meaning) where
         → OnOk r (Follows meaning (visits_from g.node.0 (taker_in texts taker) s.0 left (env_in meaning mid texts g)) mid later) → OnOk r (Follows meaning (for_in_value f.node.0 (taker_in texts taker) s.0 env (value_in texts v)) old later)
     listed_follows v x h =
         let P : Act → Type 0 = λ act. OnOk r (Follows meaning act mid later) in
-        x.by f.node.0 (taker_in texts taker) s.0 later r (subst P
+        x.by f.node.0 (taker_in texts taker) s.0 None later r (subst P
         (ap (λ (here : ℕ). visits_from here (taker_in texts taker) s.0 left (env_in meaning mid texts g)) (λ i. (eg i).node.0)
         ∙ ap (λ (e : Env). visits_from f.node.0 (taker_in texts taker) s.0 left e) (env_moved old mid texts f g l eg)) h)
 
     -- that there are none
     pub refused_follows : (v error : NumberedValue) → Refuses meaning (λ t. value_in t v) (λ t. value_in t error) (λ t. env_in meaning old t f) old mid → OnOk r (Follows meaning (Ret (Throws (value_in texts error))) mid later) → OnOk r (Follows meaning (for_in_value f.node.0 (taker_in texts taker) s.0 env (value_in texts v)) old later)
-    refused_follows v error x h = x.by f.node.0 (taker_in texts taker) s.0 later r h
+    refused_follows v error x h = x.by f.node.0 (taker_in texts taker) s.0 None later r h
 
   -- a target is entered with its visit held
   pub target_entered : (t : Table) (c : Config S) (f g : Frame) (taker : Taker) (target s : NodeId) (x : NumberedSlot) → taker ≡ Target target → taker_of (node_now meaning c f) ≡ Some taker → g ≡ record f { held = holds.Visit x ∷ f.held }

@@ -16,7 +16,7 @@ use Rattle.wjs_meaning.specs.declared.trouble.Trouble.TheVariants.{NotAnObject}
 use Rattle.wjs_meaning.specs.Builtins.{class_prototype}
 use Rattle.wjs_meaning.specs.Errors.{error_of, throw}
 use Rattle.wjs_meaning.specs.Properties.{visits}
-use Rattle.wjs_meaning.specs.Deeds.{Env, Act, Do, Create, Read}
+use Rattle.wjs_meaning.specs.Deeds.{Completion, Env, Act, Sub, Do, Create, Read}
 use Rattle.wjs_meaning.specs.Loops.{Taker, visit_take, visits_from, for_in_object, for_in_value}
 use Rattle.wjs_model.specs.declared.config.Config.{Config}
 use Rattle.wjs_model.specs.declared.frame.Activation.{Activation as Frame}
@@ -27,11 +27,13 @@ use Rattle.wjs_model.specs.Soundness.{HasItems, IsThere}
 use Rattle.wjs_frames.specs.Parts.{env_in}
 use Rattle.wjs_frames.specs.Following.{Follows}
 use Rattle.wjs_frames.specs.Doing.{Does}
+use Rattle.wjs_frames.specs.Shortening.{Shortens}
+use Rattle.wjs_frames.proofs.Shorter.{follows_shorter, shorten_deed, shorten_do, shorten_plan, shorten_trans}
 use Rattle.wjs_heap_steps.specs.Visits.{HasVisit}
 use Rattle.wjs_heap_steps.proofs.Composing.{throwing}
 use Rattle.wjs_step_common.specs.Lists.{visits_as_items}
 use Rattle.wjs_by_content.specs.Renamed.{Holds}
-use Rattle.wjs_loops.specs.ForIns.{Passes, Reaches, Lists, Refuses, listed}
+use Rattle.wjs_loops.specs.ForIns.{Passes, Reaches, Lists, Refuses, listed, placed}
 
 -- by whether the slot is present
 abbrev pub visit_or : ℕ → Taker → ℕ → Slot → List Slot → Env → Bool → Act
@@ -49,14 +51,27 @@ visits_seen : (t : Table) (vs : List Visit) → each (slot_in t) (visits_held (v
 visits_seen t [] = refl
 visits_seen t (v ∷ vs) = ap (λ l. slot_in t (record { object = v.object; name = v.name }) ∷ l) (visits_seen t vs)
 
+-- the list of an object's visits within other deeds
+visits_shorten : (o : ObjId) (env : Env) (next : List Slot → Act) (to : Completion → Act) → Shortens (Sub (visits o env next) to) (visits o env (λ xs. Sub (next xs) to))
+visits_shorten o env next to = shorten_trans _ _ _ (shorten_deed _ _ to) (shorten_do _ _ _ (λ arena. shorten_plan _ _ _ to))
+
 module _ {S : Type 0} (meaning : S → Meaning) where
   -- what is followed of the visit, or of those behind it, is followed of the read
-  visit_follows : (answer : Bool) (x : Table → Slot) (world : WorldId) (old mid later : Config S) (r : Result (Unit {0}) OutOfMemory) (here : ℕ) (taker : Taker) (s : ℕ) (xs : List Slot) (env : Env) → Does meaning (λ t go. Do (Read world (x t)) (λ found. go (is_some found))) (λ t. answer) old mid → env.world ≡ world → OnOk r (Follows meaning (visit_or here taker s (x later.heap.texts) xs env answer) mid later) → OnOk r (Follows meaning (visits_from here taker s (x later.heap.texts ∷ xs) env) old later)
-  visit_follows answer x world old mid later r here taker s xs env d ew h =
+  visit_follows : (answer : Bool) (x : Table → Slot) (world : WorldId) (old mid later : Config S) (r : Result (Unit {0}) OutOfMemory) (here : ℕ) (taker : Taker) (s : ℕ) (xs : List Slot) (env : Env) (to : Option (Completion → Act)) → Does meaning (λ t go. Do (Read world (x t)) (λ found. go (is_some found))) (λ t. answer) old mid → env.world ≡ world
+      → OnOk r (Follows meaning (placed to (visit_or here taker s (x later.heap.texts) xs env answer)) mid later) → OnOk r (Follows meaning (placed to (visits_from here taker s (x later.heap.texts ∷ xs) env)) old later)
+  visit_follows answer x world old mid later r here taker s xs env None d ew h =
       let y = x later.heap.texts in
       let P : Act → Type 0 = λ act. OnOk r (Follows meaning act old later) in
       let go = visit_or here taker s y xs env in
       subst P (ap (λ (w : WorldId). Do (Read w y) (λ found. go (is_some found))) (sym ew) ∙ visit_read here taker s y xs env) (d.by go later r h)
+  visit_follows answer x world old mid later r here taker s xs env (Some to) d ew h =
+      let y = x later.heap.texts in
+      let P : Act → Type 0 = λ act. OnOk r (Follows meaning (Sub act to) old later) in
+      let go = visit_or here taker s y xs env in
+      let next : Option Value → Act = λ found. go (is_some found) in
+      subst P (ap (λ (w : WorldId). Do (Read w y) next) (sym ew) ∙ visit_read here taker s y xs env)
+      (follows_shorter meaning (Sub (Do (Read world y) next) to) (Do (Read world y) (λ found. Sub (next found) to)) old later r (shorten_deed (Read world y) next to)
+      (d.by (λ b. Sub (go b) to) later r h))
 
   -- ---- the next visit that is present
 
@@ -64,24 +79,24 @@ module _ {S : Type 0} (meaning : S → Meaning) where
     abbrev goes_on : Config S → ℕ → Taker → ℕ → List NumberedSlot → Act
     goes_on later here taker s l = visits_from here taker s (each (slot_in later.heap.texts) l) (env later.heap.texts)
 
-    by_read : (answer : Bool) → Does meaning (λ t go. Do (Read world (slot_in t x)) (λ found. go (is_some found))) (λ t. answer) mid new → (here : ℕ) (taker : Taker) (s : ℕ) (later : Config S) (r : Result (Unit {0}) OutOfMemory)
-        → OnOk r (Follows meaning (visit_or here taker s (slot_in later.heap.texts x) (each (slot_in later.heap.texts) (visits_held rest)) (env later.heap.texts) answer) new later) → OnOk r (Follows meaning (visits_from here taker s (before later.heap.texts) (env later.heap.texts)) old later)
-    by_read answer d here taker s later r h =
+    by_read : (answer : Bool) → Does meaning (λ t go. Do (Read world (slot_in t x)) (λ found. go (is_some found))) (λ t. answer) mid new → (here : ℕ) (taker : Taker) (s : ℕ) (to : Option (Completion → Act)) (later : Config S) (r : Result (Unit {0}) OutOfMemory)
+        → OnOk r (Follows meaning (placed to (visit_or here taker s (slot_in later.heap.texts x) (each (slot_in later.heap.texts) (visits_held rest)) (env later.heap.texts) answer)) new later) → OnOk r (Follows meaning (placed to (visits_from here taker s (before later.heap.texts) (env later.heap.texts))) old later)
+    by_read answer d here taker s to later r h =
         let t = later.heap.texts in
-        p.by here taker s later r (subst (λ (l : List NumberedSlot). OnOk r (Follows meaning (goes_on later here taker s l) mid later)) (sym e) (visit_follows answer (λ u. slot_in u x) world mid new later r here taker s (each (slot_in t) (visits_held rest)) (env t) d (ew t) h))
+        p.by here taker s to later r (subst (λ (l : List NumberedSlot). OnOk r (Follows meaning (placed to (goes_on later here taker s l)) mid later)) (sym e) (visit_follows answer (λ u. slot_in u x) world mid new later r here taker s (each (slot_in t) (visits_held rest)) (env t) to d (ew t) h))
 
     -- one more is absent
     pub passes_on : Does meaning (λ t go. Do (Read world (slot_in t x)) (λ found. go (is_some found))) (λ t. false) mid new → Passes meaning before (λ t. each (slot_in t) (visits_held rest)) env old new
-    passes_on d = record { by = λ here taker s later r h. by_read false d here taker s later r h }
+    passes_on d = record { by = λ here taker s to later r h. by_read false d here taker s to later r h }
 
     -- this one is present
     pub reaches_on : Does meaning (λ t go. Do (Read world (slot_in t x)) (λ found. go (is_some found))) (λ t. true) mid new → Reaches meaning before (λ t. each (slot_in t) (visits_held rest)) (λ t. Some (name_in t x.name)) env old new
-    reaches_on d = record { by = λ here taker s later r h. by_read true d here taker s later r h }
+    reaches_on d = record { by = λ here taker s to later r h. by_read true d here taker s to later r h }
 
   -- none is left
   pub reaches_none : (before after : Table → List Slot) (held : List Held) (env : Table → Env) (old mid : Config S) → Passes meaning before (λ t. each (slot_in t) (visits_held held)) env old mid → visits_held held ≡ [] → Reaches meaning before after (λ t. None) env old mid
   reaches_none before after held env old mid p e = record {
-    by = λ here taker s later r h. p.by here taker s later r (subst (λ (l : List NumberedSlot). OnOk r (Follows meaning (visits_from here taker s (each (slot_in later.heap.texts) l) (env later.heap.texts)) mid later)) (sym e) h);
+    by = λ here taker s to later r h. p.by here taker s to later r (subst (λ (l : List NumberedSlot). OnOk r (Follows meaning (placed to (visits_from here taker s (each (slot_in later.heap.texts) l) (env later.heap.texts))) mid later)) (sym e) h);
   }
 
   -- ---- the object whose names are listed
@@ -102,23 +117,40 @@ module _ {S : Type 0} (meaning : S → Meaning) where
   over_none here taker s env (Number x) e = absurd (cc)
   over_none here taker s env (String t) e = absurd (cc)
 
+  -- they are listed where they stand
+  listed_by : (o : ObjId) (vs : List Visit) (f : Frame) (old mid later : Config S) (r : Result (Unit {0}) OutOfMemory) (next : List Slot → Act) (to : Option (Completion → Act)) → Does meaning (λ t. visits o (env_in meaning old t f)) (λ t. visits_in t vs) old mid
+      → OnOk r (Follows meaning (placed to (next (visits_in later.heap.texts vs))) mid later) → OnOk r (Follows meaning (placed to (visits o (env_in meaning old later.heap.texts f) next)) old later)
+  listed_by o vs f old mid later r next None d h = d.by next later r h
+  listed_by o vs f old mid later r next (Some to) d h =
+      let env = env_in meaning old later.heap.texts f in
+      follows_shorter meaning (Sub (visits o env next) to) (visits o env (λ xs. Sub (next xs) to)) old later r (visits_shorten o env next to) (d.by (λ xs. Sub (next xs) to) later r h)
+
+  -- that there is none is thrown where it stands
+  thrown_by : (o : ObjId) (old mid later : Config S) (r : Result (Unit {0}) OutOfMemory) (to : Option (Completion → Act)) → Does meaning (λ t go. Do (Create old.owner (error_of NotAnObject [])) go) (λ t. o) old mid
+      → OnOk r (Follows meaning (placed to (throwing o)) mid later) → OnOk r (Follows meaning (placed to (Do (Create old.owner (error_of NotAnObject [])) throwing)) old later)
+  thrown_by o old mid later r None d h = d.by throwing later r h
+  thrown_by o old mid later r (Some to) d h =
+      follows_shorter meaning (Sub (Do (Create old.owner (error_of NotAnObject [])) throwing) to) (Do (Create old.owner (error_of NotAnObject [])) (λ x. Sub (throwing x) to)) old later r
+      (shorten_deed (Create old.owner (error_of NotAnObject [])) throwing to) (d.by (λ x. Sub (throwing x) to) later r h)
+
   -- its visits are held
   pub lists_held : (v : Table → Value) (o : ObjId) (vs : List Visit) (held : List Held) (f : Frame) (old mid : Config S) → ((t : Table) → listed (v t) ≡ Some o) → held ≡ visits_as_items vs ++ [] → Does meaning (λ t. visits o (env_in meaning old t f)) (λ t. visits_in t vs) old mid
       → Lists meaning v (λ t. each (slot_in t) (visits_held held)) (λ t. env_in meaning old t f) old mid
   lists_held v o vs held f old mid el eh d = record {
-    by = λ here taker s later r h.
+    by = λ here taker s to later r h.
         let t = later.heap.texts in
         let env = env_in meaning old t f in
-        subst (λ (act : Act). OnOk r (Follows meaning act old later)) (over_listed here taker s env o (v t) (el t))
-        (d.by (λ xs. visits_from here taker s xs env) later r (subst (λ (xs : List Slot). OnOk r (Follows meaning (visits_from here taker s xs env) mid later)) (ap (λ (l : List Held). each (slot_in t) (visits_held l)) eh ∙ visits_seen t vs) h));
+        subst (λ (act : Act). OnOk r (Follows meaning (placed to act) old later)) (over_listed here taker s env o (v t) (el t))
+        (listed_by o vs f old mid later r (λ xs. visits_from here taker s xs env) to d
+        (subst (λ (xs : List Slot). OnOk r (Follows meaning (placed to (visits_from here taker s xs env)) mid later)) (ap (λ (l : List Held). each (slot_in t) (visits_held l)) eh ∙ visits_seen t vs) h));
   }
 
   -- that there is none is thrown
   pub refuses_none : (v : Table → Value) (o : ObjId) (f : Frame) (old mid : Config S) → ((t : Table) → listed (v t) ≡ None) → Does meaning (λ t go. Do (Create old.owner (error_of NotAnObject [])) go) (λ t. o) old mid → Refuses meaning v (λ t. Object o) (λ t. env_in meaning old t f) old mid
   refuses_none v o f old mid el d = record {
-    by = λ here taker s later r h.
+    by = λ here taker s to later r h.
         let t = later.heap.texts in
-        subst (λ (act : Act). OnOk r (Follows meaning act old later)) (over_none here taker s (env_in meaning old t f) (v t) (el t)) (d.by throwing later r h);
+        subst (λ (act : Act). OnOk r (Follows meaning (placed to act) old later)) (over_none here taker s (env_in meaning old t f) (v t) (el t)) (thrown_by o old mid later r to d h);
   }
 
 -- what is held of visits that are there is there

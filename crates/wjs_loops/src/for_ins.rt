@@ -26,7 +26,7 @@ use wjs_tree::{Node, NodeId};
 
 /// What takes the names: a target, or the name of the `var`.
 #[derive(Clone, Copy)]
-pub(crate) enum Taker {
+pub enum Taker {
     Target(NodeId),
     Variable(TextId),
 }

@@ -62,7 +62,7 @@ fn is_present<S: WorldStore>(
 }
 
 /// The next visit whose slot is present; those before it and it itself are taken off what is held.
-pub(crate) fn next_present<S: WorldStore>(
+pub fn next_present<S: WorldStore>(
     config: &mut Config<S>,
     frame: &mut Frame,
 ) -> Result<Option<Slot>, OutOfMemory>
@@ -100,7 +100,7 @@ fn listed_of<S: WorldStore>(config: &Config<S>, value: Value) -> Option<ObjId>
 }
 
 /// The frame holds the visits over a value and nothing else; of undefined and null what is thrown.
-pub(crate) fn hold_visits<S: WorldStore>(
+pub fn hold_visits<S: WorldStore>(
     config: &mut Config<S>,
     frame: &mut Frame,
     value: Value,

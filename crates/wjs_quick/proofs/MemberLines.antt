@@ -11,9 +11,9 @@ use Rattle.wjs_by_content.specs.Values.{Text, Value, Undefined, Null, Boolean, N
 use Rattle.wjs_meaning.specs.declared.trouble.Trouble.TheVariants.{NotAnObject}
 use Rattle.wjs_meaning.specs.Builtins.{class_prototype}
 use Rattle.wjs_meaning.specs.Conversions.{to_text}
-use Rattle.wjs_meaning.specs.Deeds.{Env, Completion, Gives, Act, Sub, Do, Look, carry_out, give, then_text}
+use Rattle.wjs_meaning.specs.Deeds.{Env, Reference, Member, Completion, Gives, Act, Sub, Do, Look, carry_out, give, then_text}
 use Rattle.wjs_meaning.specs.Errors.{throw}
-use Rattle.wjs_meaning.specs.Expressions.{dot_base, at_name, at_index, give_value_of}
+use Rattle.wjs_meaning.specs.Expressions.{dot_base, at_name, at_index}
 use Rattle.wjs_meaning.specs.Properties.{get_value}
 use Rattle.wjs_meaning.specs.References.{member_value}
 use Rattle.wjs_frames.specs.Shortening.{Shortens}
@@ -52,14 +52,14 @@ member_shortens Null name env go = value_shortens (class_prototype Null) name en
 member_shortens (Boolean b) name env go = value_shortens (class_prototype (Boolean b)) name env go
 member_shortens (Number x) name env go = value_shortens (class_prototype (Number x)) name env go
 
--- the line of a member by name, where the base has members
-pub dot_is : (base : Value) (name text : Text) (env : Env) → is_nullish base ≡ false → name ≡ text → dot_base text env (give_value_of env) base ≡ member_value base name env give
-dot_is base name text env e n = ap (λ (b : Bool). elim b [ true ↦ throw NotAnObject env | false ↦ member_value base text env give ]) e ∙ ap (λ (x : Text). member_value base x env give) (sym n)
+-- the line of a member by name, where the base has members, whatever its reference is for
+pub dot_is : (base : Value) (name text : Text) (env : Env) (go : Reference → Act) → is_nullish base ≡ false → name ≡ text → dot_base text env go base ≡ go (Member base name)
+dot_is base name text env go e n = ap (λ (b : Bool). elim b [ true ↦ throw NotAnObject env | false ↦ go (Member base text) ]) e ∙ ap (λ (x : Text). go (Member base x)) (sym n)
 
 -- and of one by the text of a primitive
-pub at_shortens : (base key : Value) (name : Text) (env : Env) → is_nullish base ≡ false → is_object key ≡ false → primitive_text key ≡ name → Shortens (at_index base env (give_value_of env) key) (member_value base name env give)
-at_shortens base key name env e p n =
-    let to = at_name base (give_value_of env) in
-    let is : at_index base env (give_value_of env) key ≡ Sub (to_text key env) (then_text to) = ap (λ (b : Bool). elim b [ true ↦ throw NotAnObject env | false ↦ Sub (to_text key env) (then_text to) ]) e in
-    subst (λ (x : Text). Shortens (at_index base env (give_value_of env) key) (member_value base x env give)) n
-    (subst (λ (a : Act). Shortens a (member_value base (primitive_text key) env give)) (sym is) (text_shortens key env to p))
+pub at_shortens : (base key : Value) (name : Text) (env : Env) (go : Reference → Act) → is_nullish base ≡ false → is_object key ≡ false → primitive_text key ≡ name → Shortens (at_index base env go key) (go (Member base name))
+at_shortens base key name env go e p n =
+    let to = at_name base go in
+    let is : at_index base env go key ≡ Sub (to_text key env) (then_text to) = ap (λ (b : Bool). elim b [ true ↦ throw NotAnObject env | false ↦ Sub (to_text key env) (then_text to) ]) e in
+    subst (λ (x : Text). Shortens (at_index base env go key) (go (Member base x))) n
+    (subst (λ (a : Act). Shortens a (go (Member base (primitive_text key)))) (sym is) (text_shortens key env to p))

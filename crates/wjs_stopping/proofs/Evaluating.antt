@@ -37,7 +37,7 @@ use Rattle.wjs_stopping.specs.Evaluating.{InMemory, HasMemory, Leaves, Evaluates
 use Rattle.wjs_stopping.specs.Composing.{DueStops, GivenStops, PartWaits, PartGoesOn, LineEnds, EntryIsPaid, FormIsNested, FormIsLine, StopsFollow}
 use Rattle.wjs_stopping.proofs.Stopping.{keeps_stopped}
 
-then_twice : (o : Outcome) (one two : Completion → St → ℕ → Outcome) → then_do (then_do o one) two ≡ then_do o (λ c st n. then_do (one c st n) two)
+pub then_twice : (o : Outcome) (one two : Completion → St → ℕ → Outcome) → then_do (then_do o one) two ≡ then_do o (λ c st n. then_do (one c st n) two)
 then_twice (Ends c st n) one two = refl
 then_twice (Spent st) one two = refl
 
@@ -49,10 +49,10 @@ then_same : (o : Outcome) (one two : Completion → St → ℕ → Outcome) → 
 then_same (Ends c st n) one two h = h c st n
 then_same (Spent st) one two h = refl
 
-same_below : (x : ℕ) → x ≤ x
+pub same_below : (x : ℕ) → x ≤ x
 same_below x = omega arith
 
-none_below : (n : ℕ) → 0 ≤ n
+pub none_below : (n : ℕ) → 0 ≤ n
 none_below n = omega arith
 
 shorten_nested : (goal : Goal) (env : Env) (next go : Completion → Act) → Shortens (Sub (Eval goal env next) go) (Eval goal env (λ c. Sub (next c) go))
@@ -77,6 +77,10 @@ had (Ok v) h x = x
 had (Err (ends.Throws e)) h x = x
 had (Err ends.Stopped) h x = x
 had (Err ends.OutOfMemory) h x = absurd h
+
+-- deeds, and then a line
+abbrev pub within_then : (Table → (Completion → Act) → Act) → (Table → Completion → Act) → Table → (Completion → Act) → Act
+within_then deeds next t go = deeds t (λ c. Sub (next t c) go)
 
 on_ok_had : (T U : Type 0) (r : Result (Unit {0}) OutOfMemory) → OnOk r T → (T → OnOk r U) → OnOk r U
 on_ok_had T U (Ok u) x f = f x
@@ -117,13 +121,13 @@ module _ {S : Type 0} (meaning : S → Meaning) where
   pub given_stops : {A : Type 0} (said : Table → A → Completion) → GivenStops meaning said
   given_stops said c f point e end waits top s = stopped_left said _ c f (phases.Given point e) end waits top (given_left c f point e) s
 
-  -- ---- parts
+  -- ---- parts, and other deeds before a line
 
-  part_left : (goal : Goal) (env : Table → Env) (old mid : Config S) (waits : List Frame) (top : Option (Frame × Phase)) (f : Frame) (point : Point)
-      → Leaves meaning (λ t go. Eval goal (env t) go) (rest_in meaning mid waits top) old mid
-      → Leaves meaning (part_then meaning goal env (λ t. then_at meaning mid f point t (env_in meaning mid t f))) (rest_in meaning mid (waiting_at f point ∷ waits) top) old mid
-  part_left goal env old mid waits None f point l = record { by = λ go later r h. l.by _ later r h }
-  part_left goal env old mid waits (Some top) f point l = record {
+  -- where they stopped
+  pub within_waits : (deeds : Table → (Completion → Act) → Act) (old mid : Config S) (waits : List Frame) (top : Option (Frame × Phase)) (f : Frame) (point : Point) → Leaves meaning deeds (rest_in meaning mid waits top) old mid
+      → Leaves meaning (within_then deeds (λ t. then_at meaning mid f point t (env_in meaning mid t f))) (rest_in meaning mid (waiting_at f point ∷ waits) top) old mid
+  within_waits deeds old mid waits None f point l = record { by = λ go later r h. l.by _ later r h }
+  within_waits deeds old mid waits (Some top) f point l = record {
     by = λ go later r h.
         let t = later.heap.texts in
         let next = then_at meaning mid f point t (env_in meaning mid t f) in
@@ -131,26 +135,27 @@ module _ {S : Type 0} (meaning : S → Meaning) where
         (subst (λ (k : Completion → Act). OnOk r (Follows meaning (stopped_then (run_in meaning t mid) (each (frame_in t) waits) (frame_in t (with_phase top)) (λ c. Sub (k c) go)) mid later)) (given_then meaning t mid f point) h);
   }
 
-  part_thrown : (goal : Goal) (env : Table → Env) (next : Table → Completion → Act) (error : Table → Value) (old mid : Config S) → ((t : Table) (e : Value) → next t (Throws e) ≡ Ret (Throws e))
-      → Leaves meaning (λ t go. Eval goal (env t) go) (λ t go. go (Throws (error t))) old mid → Leaves meaning (part_then meaning goal env next) (λ t go. go (Throws (error t))) old mid
-  part_thrown goal env next error old mid e l = record {
+  -- where they threw
+  pub within_thrown : (deeds : Table → (Completion → Act) → Act) (next : Table → Completion → Act) (error : Table → Value) (old mid : Config S) → ((t : Table) → next t (Throws (error t)) ≡ Ret (Throws (error t)))
+      → Leaves meaning deeds (λ t go. go (Throws (error t))) old mid → Leaves meaning (within_then deeds next) (λ t go. go (Throws (error t))) old mid
+  within_thrown deeds next error old mid e l = record {
     by = λ go later r h.
         let t = later.heap.texts in
         l.by (λ c. Sub (next t c) go) later r
-        (follows_shorter meaning _ _ mid later r (shorten_ended (next t (Throws (error t))) (Throws (error t)) go (subst (λ (a : Act). Shortens a (Ret (Throws (error t)))) (sym (e t (error t))) (shorten_same _))) h);
+        (follows_shorter meaning _ _ mid later r (shorten_ended (next t (Throws (error t))) (Throws (error t)) go (subst (λ (a : Act). Shortens a (Ret (Throws (error t)))) (sym (e t)) (shorten_same _))) h);
   }
 
   pub part_waits : {A B : Type 0} (told : Table → A → Completion) (said : Table → B → Completion) → PartWaits meaning told said
   part_waits told said goal env old mid f point ends.Stopped waits top ends.Stopped waits' top' et l w =
       let deeds = part_then meaning goal env (λ t. then_at meaning mid f point t (env_in meaning mid t f)) in
       subst (λ (x : List Frame). Leaves meaning deeds (rest_in meaning mid x top') old mid) (sym w.0)
-      (subst (λ (p : Option (Frame × Phase)). Leaves meaning deeds (rest_in meaning mid (waiting_at f point ∷ waits) p) old mid) (sym w.1) (part_left goal env old mid waits top f point l))
+      (subst (λ (p : Option (Frame × Phase)). Leaves meaning deeds (rest_in meaning mid (waiting_at f point ∷ waits) p) old mid) (sym w.1) (within_waits (λ t go. Eval goal (env t) go) old mid waits top f point l))
   part_waits told said goal env old mid f point ends.Stopped waits top (ends.Throws v) waits' top' et l w = absurd w
   part_waits told said goal env old mid f point ends.Stopped waits top ends.OutOfMemory waits' top' et l w = w
   part_waits told said goal env old mid f point (ends.Throws v) waits top end' waits' top' et l w =
       let next : Table → Completion → Act = λ t. then_at meaning mid f point t (env_in meaning mid t f) in
       subst (λ (x : Broken). Evaluates meaning (part_then meaning goal env next) said (Err x) waits' top' old mid) (sym w.0)
-      (part_thrown goal env next (λ t. value_in t v) old mid et l)
+      (within_thrown (λ t go. Eval goal (env t) go) next (λ t. value_in t v) old mid (λ t. et t (value_in t v)) l)
   part_waits told said goal env old mid f point ends.OutOfMemory waits top end' waits' top' et l w =
       let next : Table → Completion → Act = λ t. then_at meaning mid f point t (env_in meaning mid t f) in
       subst (λ (x : Broken). Evaluates meaning (part_then meaning goal env next) said (Err x) waits' top' old mid) (sym w) l

@@ -17,6 +17,8 @@ mod Tries
 mod Switches
 mod Labels
 mod DoLoops
+mod Operands
+mod ForIns
 use Rattle.wjs_direct.proofs.+direct.Answers.Expressions as expressions
 use Rattle.wjs_direct.proofs.+direct.Answers.Statements as statements
 use Rattle.wjs_direct.proofs.+direct.Answers.Stores as stores
@@ -36,6 +38,8 @@ use Rattle.wjs_direct.proofs.+direct.Answers.Tries as tries
 use Rattle.wjs_direct.proofs.+direct.Answers.Switches as switches
 use Rattle.wjs_direct.proofs.+direct.Answers.Labels as labels
 use Rattle.wjs_direct.proofs.+direct.Answers.DoLoops as do_loops
+use Rattle.wjs_direct.proofs.+direct.Answers.Operands as operands
+use Rattle.wjs_direct.proofs.+direct.Answers.ForIns as for_ins
 use Rattle.wjs_direct.proofs.+direct.Goals as goal
 
 -- ---- `expressions`
@@ -84,24 +88,6 @@ expressions::form-returns-in_default-clause-does = expressions.form-returns-in_d
 
 pub expressions::binary-value-requires : goal.expressions::binary-value-requires
 expressions::binary-value-requires = expressions.binary-value-requires
-
-pub expressions::binary-after_left-requires : goal.expressions::binary-after_left-requires
-expressions::binary-after_left-requires = expressions.binary-after_left-requires
-
-pub expressions::binary-returns-in-Ok-clause-later : goal.expressions::binary-returns-in-Ok-clause-later
-expressions::binary-returns-in-Ok-clause-later = expressions.binary-returns-in-Ok-clause-later
-
-pub expressions::binary-returns-in-Ok-clause-does : goal.expressions::binary-returns-in-Ok-clause-does
-expressions::binary-returns-in-Ok-clause-does = expressions.binary-returns-in-Ok-clause-does
-
-pub expressions::after_left-returns-in-And-clause-does : goal.expressions::after_left-returns-in-And-clause-does
-expressions::after_left-returns-in-And-clause-does = expressions.after_left-returns-in-And-clause-does
-
-pub expressions::after_left-returns-in-Or-clause-does : goal.expressions::after_left-returns-in-Or-clause-does
-expressions::after_left-returns-in-Or-clause-does = expressions.after_left-returns-in-Or-clause-does
-
-pub expressions::after_left-returns-in_default-clause-does : goal.expressions::after_left-returns-in_default-clause-does
-expressions::after_left-returns-in_default-clause-does = expressions.after_left-returns-in_default-clause-does
 
 pub expressions::and_right-returns-then-to_boolean-clause-does : goal.expressions::and_right-returns-then-to_boolean-clause-does
 expressions::and_right-returns-then-to_boolean-clause-does = expressions.and_right-returns-then-to_boolean-clause-does
@@ -252,23 +238,35 @@ statements::statement_form-returns-in_default-clause-does = statements.statement
 pub statements::condition-value-requires : goal.statements::condition-value-requires
 statements::condition-value-requires = statements.condition-value-requires
 
-pub statements::condition-chosen-requires : goal.statements::condition-chosen-requires
-statements::condition-chosen-requires = statements.condition-chosen-requires
+pub statements::condition-to_boolean-requires : goal.statements::condition-to_boolean-requires
+statements::condition-to_boolean-requires = statements.condition-to_boolean-requires
 
-pub statements::condition-returns-in-Ok-clause-later : goal.statements::condition-returns-in-Ok-clause-later
-statements::condition-returns-in-Ok-clause-later = statements.condition-returns-in-Ok-clause-later
+pub statements::condition-statement-requires : goal.statements::condition-statement-requires
+statements::condition-statement-requires = statements.condition-statement-requires
 
-pub statements::condition-returns-in-Ok-clause-does : goal.statements::condition-returns-in-Ok-clause-does
-statements::condition-returns-in-Ok-clause-does = statements.condition-returns-in-Ok-clause-does
+pub statements::condition-returns-then-to_boolean-clause-later : goal.statements::condition-returns-then-to_boolean-clause-later
+statements::condition-returns-then-to_boolean-clause-later = statements.condition-returns-then-to_boolean-clause-later
 
-pub statements::chosen-returns-then-to_boolean-clause-does : goal.statements::chosen-returns-then-to_boolean-clause-does
-statements::chosen-returns-then-to_boolean-clause-does = statements.chosen-returns-then-to_boolean-clause-does
+pub statements::condition-returns-then-to_boolean-clause-does : goal.statements::condition-returns-then-to_boolean-clause-does
+statements::condition-returns-then-to_boolean-clause-does = statements.condition-returns-then-to_boolean-clause-does
 
-pub statements::chosen-returns-in-Some-clause-does : goal.statements::chosen-returns-in-Some-clause-does
-statements::chosen-returns-in-Some-clause-does = statements.chosen-returns-in-Some-clause-does
+pub statements::condition-statement-requires-in-Some : goal.statements::condition-statement-requires-in-Some
+statements::condition-statement-requires-in-Some = statements.condition-statement-requires-in-Some
 
-pub statements::chosen-returns-in-None-clause-does : goal.statements::chosen-returns-in-None-clause-does
-statements::chosen-returns-in-None-clause-does = statements.chosen-returns-in-None-clause-does
+pub statements::condition-returns-in-Some-clause-later : goal.statements::condition-returns-in-Some-clause-later
+statements::condition-returns-in-Some-clause-later = statements.condition-returns-in-Some-clause-later
+
+pub statements::condition-returns-in-Some-clause-does : goal.statements::condition-returns-in-Some-clause-does
+statements::condition-returns-in-Some-clause-does = statements.condition-returns-in-Some-clause-does
+
+pub statements::condition-returns-in-None-clause-later : goal.statements::condition-returns-in-None-clause-later
+statements::condition-returns-in-None-clause-later = statements.condition-returns-in-None-clause-later
+
+pub statements::condition-returns-in-None-clause-found : goal.statements::condition-returns-in-None-clause-found
+statements::condition-returns-in-None-clause-found = statements.condition-returns-in-None-clause-found
+
+pub statements::condition-returns-in-None-clause-does : goal.statements::condition-returns-in-None-clause-does
+statements::condition-returns-in-None-clause-does = statements.condition-returns-in-None-clause-does
 
 pub statements::run_block-loop-part-init : goal.statements::run_block-loop-part-init
 statements::run_block-loop-part-init = statements.run_block-loop-part-init
@@ -395,35 +393,8 @@ stores::effect-returns-in-Some-clause-later = stores.effect-returns-in-Some-clau
 pub stores::effect-returns-in-Some-clause-found : goal.stores::effect-returns-in-Some-clause-found
 stores::effect-returns-in-Some-clause-found = stores.effect-returns-in-Some-clause-found
 
-pub stores::effect-valued-requires : goal.stores::effect-valued-requires
-stores::effect-valued-requires = stores.effect-valued-requires
-
-pub stores::effect-returns-clause-later : goal.stores::effect-returns-clause-later
-stores::effect-returns-clause-later = stores.effect-returns-clause-later
-
-pub stores::effect-returns-clause-does : goal.stores::effect-returns-clause-does
-stores::effect-returns-clause-does = stores.effect-returns-clause-does
-
-pub stores::valued-returns-in-Ok-clause-does : goal.stores::valued-returns-in-Ok-clause-does
-stores::valued-returns-in-Ok-clause-does = stores.valued-returns-in-Ok-clause-does
-
-pub stores::valued-returns-in-Err-clause-later : goal.stores::valued-returns-in-Err-clause-later
-stores::valued-returns-in-Err-clause-later = stores.valued-returns-in-Err-clause-later
-
-pub stores::valued-returns-in-Err-clause-does : goal.stores::valued-returns-in-Err-clause-does
-stores::valued-returns-in-Err-clause-does = stores.valued-returns-in-Err-clause-does
-
 pub stores::assign-target-requires : goal.stores::assign-target-requires
 stores::assign-target-requires = stores.assign-target-requires
-
-pub stores::assign-assign_to-requires : goal.stores::assign-assign_to-requires
-stores::assign-assign_to-requires = stores.assign-assign_to-requires
-
-pub stores::assign-returns-in-Ok-clause-later : goal.stores::assign-returns-in-Ok-clause-later
-stores::assign-returns-in-Ok-clause-later = stores.assign-returns-in-Ok-clause-later
-
-pub stores::assign-returns-in-Ok-clause-does : goal.stores::assign-returns-in-Ok-clause-does
-stores::assign-returns-in-Ok-clause-does = stores.assign-returns-in-Ok-clause-does
 
 pub stores::assign-returns-in-Err-clause-later : goal.stores::assign-returns-in-Err-clause-later
 stores::assign-returns-in-Err-clause-later = stores.assign-returns-in-Err-clause-later
@@ -433,15 +404,6 @@ stores::assign-returns-in-Err-clause-found = stores.assign-returns-in-Err-clause
 
 pub stores::assign-returns-in-Err-clause-does : goal.stores::assign-returns-in-Err-clause-does
 stores::assign-returns-in-Err-clause-does = stores.assign-returns-in-Err-clause-does
-
-pub stores::assign_to-returns-in-None-clause-does : goal.stores::assign_to-returns-in-None-clause-does
-stores::assign_to-returns-in-None-clause-does = stores.assign_to-returns-in-None-clause-does
-
-pub stores::assign_to-compounded-requires : goal.stores::assign_to-compounded-requires
-stores::assign_to-compounded-requires = stores.assign_to-compounded-requires
-
-pub stores::assign_to-returns-in-Some-clause-does : goal.stores::assign_to-returns-in-Some-clause-does
-stores::assign_to-returns-in-Some-clause-does = stores.assign_to-returns-in-Some-clause-does
 
 pub stores::assigned-stored-requires : goal.stores::assigned-stored-requires
 stores::assigned-stored-requires = stores.assigned-stored-requires
@@ -479,9 +441,6 @@ stores::compound_right-returns-in-Err-clause-found = stores.compound_right-retur
 pub stores::compound_right-returns-in-Err-clause-does : goal.stores::compound_right-returns-in-Err-clause-does
 stores::compound_right-returns-in-Err-clause-does = stores.compound_right-returns-in-Err-clause-does
 
-pub stores::compounded-target_value-requires : goal.stores::compounded-target_value-requires
-stores::compounded-target_value-requires = stores.compounded-target_value-requires
-
 pub stores::compounded-compound_right-requires : goal.stores::compounded-compound_right-requires
 stores::compounded-compound_right-requires = stores.compounded-compound_right-requires
 
@@ -500,8 +459,8 @@ stores::compounded-returns-in-Err-clause-found = stores.compounded-returns-in-Er
 pub stores::compounded-returns-in-Err-clause-does : goal.stores::compounded-returns-in-Err-clause-does
 stores::compounded-returns-in-Err-clause-does = stores.compounded-returns-in-Err-clause-does
 
-pub stores::update-updated-requires : goal.stores::update-updated-requires
-stores::update-updated-requires = stores.update-updated-requires
+pub stores::update-target_updated-requires : goal.stores::update-target_updated-requires
+stores::update-target_updated-requires = stores.update-target_updated-requires
 
 pub stores::update-returns-in-Ok-clause-later : goal.stores::update-returns-in-Ok-clause-later
 stores::update-returns-in-Ok-clause-later = stores.update-returns-in-Ok-clause-later
@@ -689,8 +648,11 @@ targets::index_of_base-returns-in-Err-clause-does = targets.index_of_base-return
 pub choices::choice-value-requires : goal.choices::choice-value-requires
 choices::choice-value-requires = choices.choice-value-requires
 
-pub choices::choice-chosen-requires : goal.choices::choice-chosen-requires
-choices::choice-chosen-requires = choices.choice-chosen-requires
+pub choices::choice-picked-next-requires : goal.choices::choice-picked-next-requires
+choices::choice-picked-next-requires = choices.choice-picked-next-requires
+
+pub choices::choice-value-requires-in-Ok : goal.choices::choice-value-requires-in-Ok
+choices::choice-value-requires-in-Ok = choices.choice-value-requires-in-Ok
 
 pub choices::choice-returns-in-Ok-clause-later : goal.choices::choice-returns-in-Ok-clause-later
 choices::choice-returns-in-Ok-clause-later = choices.choice-returns-in-Ok-clause-later
@@ -707,17 +669,11 @@ choices::choice-returns-in-Err-clause-found = choices.choice-returns-in-Err-clau
 pub choices::choice-returns-in-Err-clause-does : goal.choices::choice-returns-in-Err-clause-does
 choices::choice-returns-in-Err-clause-does = choices.choice-returns-in-Err-clause-does
 
-pub choices::chosen-value-requires : goal.choices::chosen-value-requires
-choices::chosen-value-requires = choices.chosen-value-requires
-
-pub choices::chosen-returns-clause-does : goal.choices::chosen-returns-clause-does
-choices::chosen-returns-clause-does = choices.chosen-returns-clause-does
-
 pub choices::comma-value-requires : goal.choices::comma-value-requires
 choices::comma-value-requires = choices.comma-value-requires
 
-pub choices::comma-behind-requires : goal.choices::comma-behind-requires
-choices::comma-behind-requires = choices.comma-behind-requires
+pub choices::comma-value-requires-in-Ok : goal.choices::comma-value-requires-in-Ok
+choices::comma-value-requires-in-Ok = choices.comma-value-requires-in-Ok
 
 pub choices::comma-returns-in-Ok-clause-later : goal.choices::comma-returns-in-Ok-clause-later
 choices::comma-returns-in-Ok-clause-later = choices.comma-returns-in-Ok-clause-later
@@ -733,9 +689,6 @@ choices::comma-returns-in-Err-clause-found = choices.comma-returns-in-Err-clause
 
 pub choices::comma-returns-in-Err-clause-does : goal.choices::comma-returns-in-Err-clause-does
 choices::comma-returns-in-Err-clause-does = choices.comma-returns-in-Err-clause-does
-
-pub choices::behind-returns-clause-does : goal.choices::behind-returns-clause-does
-choices::behind-returns-clause-does = choices.behind-returns-clause-does
 
 -- ---- `prefixes`
 
@@ -816,44 +769,47 @@ variables::run_variables-returns-in-Err-clause-does = variables.run_variables-re
 pub variables::run_variables-returns-clause-does : goal.variables::run_variables-returns-clause-does
 variables::run_variables-returns-clause-does = variables.run_variables-returns-clause-does
 
-pub variables::declared-initialised-requires : goal.variables::declared-initialised-requires
-variables::declared-initialised-requires = variables.declared-initialised-requires
+pub variables::declared-value-requires : goal.variables::declared-value-requires
+variables::declared-value-requires = variables.declared-value-requires
 
-pub variables::declared-returns-in-Some-clause-does : goal.variables::declared-returns-in-Some-clause-does
-variables::declared-returns-in-Some-clause-does = variables.declared-returns-in-Some-clause-does
+pub variables::declared-variable_stored-requires : goal.variables::declared-variable_stored-requires
+variables::declared-variable_stored-requires = variables.declared-variable_stored-requires
+
+pub variables::declared-returns-in-Ok-clause-later : goal.variables::declared-returns-in-Ok-clause-later
+variables::declared-returns-in-Ok-clause-later = variables.declared-returns-in-Ok-clause-later
+
+pub variables::declared-returns-in-Ok-clause-does : goal.variables::declared-returns-in-Ok-clause-does
+variables::declared-returns-in-Ok-clause-does = variables.declared-returns-in-Ok-clause-does
+
+pub variables::declared-returns-in-Err-clause-later : goal.variables::declared-returns-in-Err-clause-later
+variables::declared-returns-in-Err-clause-later = variables.declared-returns-in-Err-clause-later
+
+pub variables::declared-returns-in-Err-clause-found : goal.variables::declared-returns-in-Err-clause-found
+variables::declared-returns-in-Err-clause-found = variables.declared-returns-in-Err-clause-found
+
+pub variables::declared-returns-in-Err-clause-does : goal.variables::declared-returns-in-Err-clause-does
+variables::declared-returns-in-Err-clause-does = variables.declared-returns-in-Err-clause-does
 
 pub variables::declared-returns-in-None-clause-does : goal.variables::declared-returns-in-None-clause-does
 variables::declared-returns-in-None-clause-does = variables.declared-returns-in-None-clause-does
 
-pub variables::initialised-value-requires : goal.variables::initialised-value-requires
-variables::initialised-value-requires = variables.initialised-value-requires
+pub variables::for_variables-run_loop-requires : goal.variables::for_variables-run_loop-requires
+variables::for_variables-run_loop-requires = variables.for_variables-run_loop-requires
 
-pub variables::initialised-variable_stored-requires : goal.variables::initialised-variable_stored-requires
-variables::initialised-variable_stored-requires = variables.initialised-variable_stored-requires
+pub variables::for_variables-returns-in-Normal-clause-later : goal.variables::for_variables-returns-in-Normal-clause-later
+variables::for_variables-returns-in-Normal-clause-later = variables.for_variables-returns-in-Normal-clause-later
 
-pub variables::initialised-returns-in-Ok-clause-later : goal.variables::initialised-returns-in-Ok-clause-later
-variables::initialised-returns-in-Ok-clause-later = variables.initialised-returns-in-Ok-clause-later
+pub variables::for_variables-returns-in-Normal-clause-does : goal.variables::for_variables-returns-in-Normal-clause-does
+variables::for_variables-returns-in-Normal-clause-does = variables.for_variables-returns-in-Normal-clause-does
 
-pub variables::initialised-returns-in-Ok-clause-does : goal.variables::initialised-returns-in-Ok-clause-does
-variables::initialised-returns-in-Ok-clause-does = variables.initialised-returns-in-Ok-clause-does
+pub variables::for_variables-returns-in_default-clause-later : goal.variables::for_variables-returns-in_default-clause-later
+variables::for_variables-returns-in_default-clause-later = variables.for_variables-returns-in_default-clause-later
 
-pub variables::initialised-returns-in-Err-clause-later : goal.variables::initialised-returns-in-Err-clause-later
-variables::initialised-returns-in-Err-clause-later = variables.initialised-returns-in-Err-clause-later
+pub variables::for_variables-returns-in_default-clause-found : goal.variables::for_variables-returns-in_default-clause-found
+variables::for_variables-returns-in_default-clause-found = variables.for_variables-returns-in_default-clause-found
 
-pub variables::initialised-returns-in-Err-clause-found : goal.variables::initialised-returns-in-Err-clause-found
-variables::initialised-returns-in-Err-clause-found = variables.initialised-returns-in-Err-clause-found
-
-pub variables::initialised-returns-in-Err-clause-does : goal.variables::initialised-returns-in-Err-clause-does
-variables::initialised-returns-in-Err-clause-does = variables.initialised-returns-in-Err-clause-does
-
-pub variables::for_variables-for_declared-requires : goal.variables::for_variables-for_declared-requires
-variables::for_variables-for_declared-requires = variables.for_variables-for_declared-requires
-
-pub variables::for_variables-returns-in-Ok-clause-later : goal.variables::for_variables-returns-in-Ok-clause-later
-variables::for_variables-returns-in-Ok-clause-later = variables.for_variables-returns-in-Ok-clause-later
-
-pub variables::for_variables-returns-in-Ok-clause-does : goal.variables::for_variables-returns-in-Ok-clause-does
-variables::for_variables-returns-in-Ok-clause-does = variables.for_variables-returns-in-Ok-clause-does
+pub variables::for_variables-returns-in_default-clause-does : goal.variables::for_variables-returns-in_default-clause-does
+variables::for_variables-returns-in_default-clause-does = variables.for_variables-returns-in_default-clause-does
 
 pub variables::for_variables-returns-in-Err-clause-later : goal.variables::for_variables-returns-in-Err-clause-later
 variables::for_variables-returns-in-Err-clause-later = variables.for_variables-returns-in-Err-clause-later
@@ -863,12 +819,6 @@ variables::for_variables-returns-in-Err-clause-found = variables.for_variables-r
 
 pub variables::for_variables-returns-in-Err-clause-does : goal.variables::for_variables-returns-in-Err-clause-does
 variables::for_variables-returns-in-Err-clause-does = variables.for_variables-returns-in-Err-clause-does
-
-pub variables::for_declared-returns-in-Normal-clause-does : goal.variables::for_declared-returns-in-Normal-clause-does
-variables::for_declared-returns-in-Normal-clause-does = variables.for_declared-returns-in-Normal-clause-does
-
-pub variables::for_declared-returns-in_default-clause-does : goal.variables::for_declared-returns-in_default-clause-does
-variables::for_declared-returns-in_default-clause-does = variables.for_declared-returns-in_default-clause-does
 
 -- ---- `bodies`
 
@@ -946,23 +896,11 @@ calls::call-value_called-requires = calls.call-value_called-requires
 pub calls::call-returns-else-is_target-clause-does : goal.calls::call-returns-else-is_target-clause-does
 calls::call-returns-else-is_target-clause-does = calls.call-returns-else-is_target-clause-does
 
-pub calls::target_called-reference_called-requires : goal.calls::target_called-reference_called-requires
-calls::target_called-reference_called-requires = calls.target_called-reference_called-requires
-
-pub calls::target_called-returns-in-Ok-clause-later : goal.calls::target_called-returns-in-Ok-clause-later
-calls::target_called-returns-in-Ok-clause-later = calls.target_called-returns-in-Ok-clause-later
-
-pub calls::target_called-returns-in-Ok-clause-does : goal.calls::target_called-returns-in-Ok-clause-does
-calls::target_called-returns-in-Ok-clause-does = calls.target_called-returns-in-Ok-clause-does
-
 pub calls::target_called-returns-in-Err-clause-found : goal.calls::target_called-returns-in-Err-clause-found
 calls::target_called-returns-in-Err-clause-found = calls.target_called-returns-in-Err-clause-found
 
 pub calls::target_called-returns-in-Err-clause-does : goal.calls::target_called-returns-in-Err-clause-does
 calls::target_called-returns-in-Err-clause-does = calls.target_called-returns-in-Err-clause-does
-
-pub calls::reference_called-returns-in-Some-Object-clause-does : goal.calls::reference_called-returns-in-Some-Object-clause-does
-calls::reference_called-returns-in-Some-Object-clause-does = calls.reference_called-returns-in-Some-Object-clause-does
 
 pub calls::callee_read-evaluate_arguments-requires : goal.calls::callee_read-evaluate_arguments-requires
 calls::callee_read-evaluate_arguments-requires = calls.callee_read-evaluate_arguments-requires
@@ -1074,14 +1012,23 @@ calls::body_entered-returns-clause-does = calls.body_entered-returns-clause-does
 
 -- ---- `loops`
 
-pub loops::for_expression-for_begun-requires : goal.loops::for_expression-for_begun-requires
-loops::for_expression-for_begun-requires = loops.for_expression-for_begun-requires
+pub loops::for_expression-run_loop-requires : goal.loops::for_expression-run_loop-requires
+loops::for_expression-run_loop-requires = loops.for_expression-run_loop-requires
 
-pub loops::for_expression-returns-in-Ok-clause-later : goal.loops::for_expression-returns-in-Ok-clause-later
-loops::for_expression-returns-in-Ok-clause-later = loops.for_expression-returns-in-Ok-clause-later
+pub loops::for_expression-returns-in-Gives-clause-later : goal.loops::for_expression-returns-in-Gives-clause-later
+loops::for_expression-returns-in-Gives-clause-later = loops.for_expression-returns-in-Gives-clause-later
 
-pub loops::for_expression-returns-in-Ok-clause-does : goal.loops::for_expression-returns-in-Ok-clause-does
-loops::for_expression-returns-in-Ok-clause-does = loops.for_expression-returns-in-Ok-clause-does
+pub loops::for_expression-returns-in-Gives-clause-does : goal.loops::for_expression-returns-in-Gives-clause-does
+loops::for_expression-returns-in-Gives-clause-does = loops.for_expression-returns-in-Gives-clause-does
+
+pub loops::for_expression-returns-in_default-clause-later : goal.loops::for_expression-returns-in_default-clause-later
+loops::for_expression-returns-in_default-clause-later = loops.for_expression-returns-in_default-clause-later
+
+pub loops::for_expression-returns-in_default-clause-found : goal.loops::for_expression-returns-in_default-clause-found
+loops::for_expression-returns-in_default-clause-found = loops.for_expression-returns-in_default-clause-found
+
+pub loops::for_expression-returns-in_default-clause-does : goal.loops::for_expression-returns-in_default-clause-does
+loops::for_expression-returns-in_default-clause-does = loops.for_expression-returns-in_default-clause-does
 
 pub loops::for_expression-returns-in-Err-clause-later : goal.loops::for_expression-returns-in-Err-clause-later
 loops::for_expression-returns-in-Err-clause-later = loops.for_expression-returns-in-Err-clause-later
@@ -1091,12 +1038,6 @@ loops::for_expression-returns-in-Err-clause-found = loops.for_expression-returns
 
 pub loops::for_expression-returns-in-Err-clause-does : goal.loops::for_expression-returns-in-Err-clause-does
 loops::for_expression-returns-in-Err-clause-does = loops.for_expression-returns-in-Err-clause-does
-
-pub loops::for_begun-returns-in-Gives-clause-does : goal.loops::for_begun-returns-in-Gives-clause-does
-loops::for_begun-returns-in-Gives-clause-does = loops.for_begun-returns-in-Gives-clause-does
-
-pub loops::for_begun-returns-in_default-clause-does : goal.loops::for_begun-returns-in_default-clause-does
-loops::for_begun-returns-in_default-clause-does = loops.for_begun-returns-in_default-clause-does
 
 pub loops::run_loop-iterations-requires : goal.loops::run_loop-iterations-requires
 loops::run_loop-iterations-requires = loops.run_loop-iterations-requires
@@ -1122,32 +1063,29 @@ loops::run_loop-returns-in-Err-clause-later = loops.run_loop-returns-in-Err-clau
 pub loops::run_loop-returns-in-Err-clause-does : goal.loops::run_loop-returns-in-Err-clause-does
 loops::run_loop-returns-in-Err-clause-does = loops.run_loop-returns-in-Err-clause-does
 
-pub loops::first-first_tested-requires : goal.loops::first-first_tested-requires
-loops::first-first_tested-requires = loops.first-first_tested-requires
+pub loops::first-value-requires : goal.loops::first-value-requires
+loops::first-value-requires = loops.first-value-requires
 
-pub loops::first-returns-in-Some-clause-does : goal.loops::first-returns-in-Some-clause-does
-loops::first-returns-in-Some-clause-does = loops.first-returns-in-Some-clause-does
+pub loops::first-tested-requires : goal.loops::first-tested-requires
+loops::first-tested-requires = loops.first-tested-requires
+
+pub loops::first-returns-in-Ok-clause-later : goal.loops::first-returns-in-Ok-clause-later
+loops::first-returns-in-Ok-clause-later = loops.first-returns-in-Ok-clause-later
+
+pub loops::first-returns-in-Ok-clause-does : goal.loops::first-returns-in-Ok-clause-does
+loops::first-returns-in-Ok-clause-does = loops.first-returns-in-Ok-clause-does
+
+pub loops::first-returns-in-Err-clause-later : goal.loops::first-returns-in-Err-clause-later
+loops::first-returns-in-Err-clause-later = loops.first-returns-in-Err-clause-later
+
+pub loops::first-returns-in-Err-clause-found : goal.loops::first-returns-in-Err-clause-found
+loops::first-returns-in-Err-clause-found = loops.first-returns-in-Err-clause-found
+
+pub loops::first-returns-in-Err-clause-does : goal.loops::first-returns-in-Err-clause-does
+loops::first-returns-in-Err-clause-does = loops.first-returns-in-Err-clause-does
 
 pub loops::first-returns-in-None-clause-does : goal.loops::first-returns-in-None-clause-does
 loops::first-returns-in-None-clause-does = loops.first-returns-in-None-clause-does
-
-pub loops::first_tested-tested-requires : goal.loops::first_tested-tested-requires
-loops::first_tested-tested-requires = loops.first_tested-tested-requires
-
-pub loops::first_tested-returns-in-Ok-clause-later : goal.loops::first_tested-returns-in-Ok-clause-later
-loops::first_tested-returns-in-Ok-clause-later = loops.first_tested-returns-in-Ok-clause-later
-
-pub loops::first_tested-returns-in-Ok-clause-does : goal.loops::first_tested-returns-in-Ok-clause-does
-loops::first_tested-returns-in-Ok-clause-does = loops.first_tested-returns-in-Ok-clause-does
-
-pub loops::first_tested-returns-in-Err-clause-later : goal.loops::first_tested-returns-in-Err-clause-later
-loops::first_tested-returns-in-Err-clause-later = loops.first_tested-returns-in-Err-clause-later
-
-pub loops::first_tested-returns-in-Err-clause-found : goal.loops::first_tested-returns-in-Err-clause-found
-loops::first_tested-returns-in-Err-clause-found = loops.first_tested-returns-in-Err-clause-found
-
-pub loops::first_tested-returns-in-Err-clause-does : goal.loops::first_tested-returns-in-Err-clause-does
-loops::first_tested-returns-in-Err-clause-does = loops.first_tested-returns-in-Err-clause-does
 
 pub loops::iterations-loop-test-init : goal.loops::iterations-loop-test-init
 loops::iterations-loop-test-init = loops.iterations-loop-test-init
@@ -1182,32 +1120,29 @@ loops::iterations-returns-clause-found = loops.iterations-returns-clause-found
 pub loops::iterations-returns-clause-does : goal.loops::iterations-returns-clause-does
 loops::iterations-returns-clause-does = loops.iterations-returns-clause-does
 
-pub loops::iteration-next_tested-requires : goal.loops::iteration-next_tested-requires
-loops::iteration-next_tested-requires = loops.iteration-next_tested-requires
+pub loops::iteration-entered-requires : goal.loops::iteration-entered-requires
+loops::iteration-entered-requires = loops.iteration-entered-requires
 
-pub loops::iteration-returns-in-Some-clause-does : goal.loops::iteration-returns-in-Some-clause-does
-loops::iteration-returns-in-Some-clause-does = loops.iteration-returns-in-Some-clause-does
+pub loops::iteration-tested-requires : goal.loops::iteration-tested-requires
+loops::iteration-tested-requires = loops.iteration-tested-requires
+
+pub loops::iteration-returns-in-Ok-clause-later : goal.loops::iteration-returns-in-Ok-clause-later
+loops::iteration-returns-in-Ok-clause-later = loops.iteration-returns-in-Ok-clause-later
+
+pub loops::iteration-returns-in-Ok-clause-does : goal.loops::iteration-returns-in-Ok-clause-does
+loops::iteration-returns-in-Ok-clause-does = loops.iteration-returns-in-Ok-clause-does
+
+pub loops::iteration-returns-in-Err-clause-later : goal.loops::iteration-returns-in-Err-clause-later
+loops::iteration-returns-in-Err-clause-later = loops.iteration-returns-in-Err-clause-later
+
+pub loops::iteration-returns-in-Err-clause-found : goal.loops::iteration-returns-in-Err-clause-found
+loops::iteration-returns-in-Err-clause-found = loops.iteration-returns-in-Err-clause-found
+
+pub loops::iteration-returns-in-Err-clause-does : goal.loops::iteration-returns-in-Err-clause-does
+loops::iteration-returns-in-Err-clause-does = loops.iteration-returns-in-Err-clause-does
 
 pub loops::iteration-returns-in-None-clause-does : goal.loops::iteration-returns-in-None-clause-does
 loops::iteration-returns-in-None-clause-does = loops.iteration-returns-in-None-clause-does
-
-pub loops::next_tested-tested-requires : goal.loops::next_tested-tested-requires
-loops::next_tested-tested-requires = loops.next_tested-tested-requires
-
-pub loops::next_tested-returns-in-Ok-clause-later : goal.loops::next_tested-returns-in-Ok-clause-later
-loops::next_tested-returns-in-Ok-clause-later = loops.next_tested-returns-in-Ok-clause-later
-
-pub loops::next_tested-returns-in-Ok-clause-does : goal.loops::next_tested-returns-in-Ok-clause-does
-loops::next_tested-returns-in-Ok-clause-does = loops.next_tested-returns-in-Ok-clause-does
-
-pub loops::next_tested-returns-in-Err-clause-later : goal.loops::next_tested-returns-in-Err-clause-later
-loops::next_tested-returns-in-Err-clause-later = loops.next_tested-returns-in-Err-clause-later
-
-pub loops::next_tested-returns-in-Err-clause-found : goal.loops::next_tested-returns-in-Err-clause-found
-loops::next_tested-returns-in-Err-clause-found = loops.next_tested-returns-in-Err-clause-found
-
-pub loops::next_tested-returns-in-Err-clause-does : goal.loops::next_tested-returns-in-Err-clause-does
-loops::next_tested-returns-in-Err-clause-does = loops.next_tested-returns-in-Err-clause-does
 
 pub loops::entered-returns-in-Some-clause-does : goal.loops::entered-returns-in-Some-clause-does
 loops::entered-returns-in-Some-clause-does = loops.entered-returns-in-Some-clause-does
@@ -1263,26 +1198,23 @@ loops::body_run-returns-in-Err-clause-found = loops.body_run-returns-in-Err-clau
 pub loops::body_run-returns-in-Err-clause-does : goal.loops::body_run-returns-in-Err-clause-does
 loops::body_run-returns-in-Err-clause-does = loops.body_run-returns-in-Err-clause-does
 
-pub loops::body_ended-returns-in-Again-clause-does : goal.loops::body_ended-returns-in-Again-clause-does
-loops::body_ended-returns-in-Again-clause-does = loops.body_ended-returns-in-Again-clause-does
+pub loops::body_ended-update_run-requires : goal.loops::body_ended-update_run-requires
+loops::body_ended-update_run-requires = loops.body_ended-update_run-requires
+
+pub loops::body_ended-returns-in-Some-clause-does : goal.loops::body_ended-returns-in-Some-clause-does
+loops::body_ended-returns-in-Some-clause-does = loops.body_ended-returns-in-Some-clause-does
+
+pub loops::body_ended-returns-in-None-clause-later : goal.loops::body_ended-returns-in-None-clause-later
+loops::body_ended-returns-in-None-clause-later = loops.body_ended-returns-in-None-clause-later
+
+pub loops::body_ended-returns-in-None-clause-does : goal.loops::body_ended-returns-in-None-clause-does
+loops::body_ended-returns-in-None-clause-does = loops.body_ended-returns-in-None-clause-does
 
 pub loops::body_ended-returns-in-Ends-clause-found : goal.loops::body_ended-returns-in-Ends-clause-found
 loops::body_ended-returns-in-Ends-clause-found = loops.body_ended-returns-in-Ends-clause-found
 
 pub loops::body_ended-returns-in-Ends-clause-does : goal.loops::body_ended-returns-in-Ends-clause-does
 loops::body_ended-returns-in-Ends-clause-does = loops.body_ended-returns-in-Ends-clause-does
-
-pub loops::updated-update_run-requires : goal.loops::updated-update_run-requires
-loops::updated-update_run-requires = loops.updated-update_run-requires
-
-pub loops::updated-returns-in-Some-clause-does : goal.loops::updated-returns-in-Some-clause-does
-loops::updated-returns-in-Some-clause-does = loops.updated-returns-in-Some-clause-does
-
-pub loops::updated-returns-in-None-clause-later : goal.loops::updated-returns-in-None-clause-later
-loops::updated-returns-in-None-clause-later = loops.updated-returns-in-None-clause-later
-
-pub loops::updated-returns-in-None-clause-does : goal.loops::updated-returns-in-None-clause-does
-loops::updated-returns-in-None-clause-does = loops.updated-returns-in-None-clause-does
 
 pub loops::update_run-returns-in-Ok-clause-found : goal.loops::update_run-returns-in-Ok-clause-found
 loops::update_run-returns-in-Ok-clause-found = loops.update_run-returns-in-Ok-clause-found
@@ -1416,15 +1348,6 @@ arrays::last_item-returns-in-Err-clause-does = arrays.last_item-returns-in-Err-c
 
 -- ---- `news`
 
-pub news::new_object-new_callee-requires : goal.news::new_object-new_callee-requires
-news::new_object-new_callee-requires = news.new_object-new_callee-requires
-
-pub news::new_object-returns-in-Ok-clause-later : goal.news::new_object-returns-in-Ok-clause-later
-news::new_object-returns-in-Ok-clause-later = news.new_object-returns-in-Ok-clause-later
-
-pub news::new_object-returns-in-Ok-clause-does : goal.news::new_object-returns-in-Ok-clause-does
-news::new_object-returns-in-Ok-clause-does = news.new_object-returns-in-Ok-clause-does
-
 pub news::new_object-returns-in-Err-clause-later : goal.news::new_object-returns-in-Err-clause-later
 news::new_object-returns-in-Err-clause-later = news.new_object-returns-in-Err-clause-later
 
@@ -1433,15 +1356,6 @@ news::new_object-returns-in-Err-clause-found = news.new_object-returns-in-Err-cl
 
 pub news::new_object-returns-in-Err-clause-does : goal.news::new_object-returns-in-Err-clause-does
 news::new_object-returns-in-Err-clause-does = news.new_object-returns-in-Err-clause-does
-
-pub news::new_callee-returns-in_default-clause-later : goal.news::new_callee-returns-in_default-clause-later
-news::new_callee-returns-in_default-clause-later = news.new_callee-returns-in_default-clause-later
-
-pub news::new_callee-returns-in_default-clause-found : goal.news::new_callee-returns-in_default-clause-found
-news::new_callee-returns-in_default-clause-found = news.new_callee-returns-in_default-clause-found
-
-pub news::new_callee-returns-in_default-clause-does : goal.news::new_callee-returns-in_default-clause-does
-news::new_callee-returns-in_default-clause-does = news.new_callee-returns-in_default-clause-does
 
 pub news::new_function-returns-in_default-clause-later : goal.news::new_function-returns-in_default-clause-later
 news::new_function-returns-in_default-clause-later = news.new_function-returns-in_default-clause-later
@@ -1479,48 +1393,6 @@ news::new_arguments-returns-clause-later = news.new_arguments-returns-clause-lat
 pub news::new_arguments-returns-clause-does : goal.news::new_arguments-returns-clause-does
 news::new_arguments-returns-clause-does = news.new_arguments-returns-clause-does
 
-pub news::constructed-made_on-requires : goal.news::constructed-made_on-requires
-news::constructed-made_on-requires = news.constructed-made_on-requires
-
-pub news::constructed-returns-clause-later : goal.news::constructed-returns-clause-later
-news::constructed-returns-clause-later = news.constructed-returns-clause-later
-
-pub news::constructed-returns-clause-does : goal.news::constructed-returns-clause-does
-news::constructed-returns-clause-does = news.constructed-returns-clause-does
-
-pub news::made_on-create-requires : goal.news::made_on-create-requires
-news::made_on-create-requires = news.made_on-create-requires
-
-pub news::made_on-called_on-requires : goal.news::made_on-called_on-requires
-news::made_on-called_on-requires = news.made_on-called_on-requires
-
-pub news::made_on-returns-clause-later : goal.news::made_on-returns-clause-later
-news::made_on-returns-clause-later = news.made_on-returns-clause-later
-
-pub news::made_on-returns-clause-does : goal.news::made_on-returns-clause-does
-news::made_on-returns-clause-does = news.made_on-returns-clause-does
-
-pub news::called_on-returns-in-Ok-clause-found : goal.news::called_on-returns-in-Ok-clause-found
-news::called_on-returns-in-Ok-clause-found = news.called_on-returns-in-Ok-clause-found
-
-pub news::called_on-returns-in-Ok-clause-does : goal.news::called_on-returns-in-Ok-clause-does
-news::called_on-returns-in-Ok-clause-does = news.called_on-returns-in-Ok-clause-does
-
-pub news::called_on-returns-in-Err-clause-later : goal.news::called_on-returns-in-Err-clause-later
-news::called_on-returns-in-Err-clause-later = news.called_on-returns-in-Err-clause-later
-
-pub news::called_on-returns-in-Err-clause-found : goal.news::called_on-returns-in-Err-clause-found
-news::called_on-returns-in-Err-clause-found = news.called_on-returns-in-Err-clause-found
-
-pub news::called_on-returns-in-Err-clause-does : goal.news::called_on-returns-in-Err-clause-does
-news::called_on-returns-in-Err-clause-does = news.called_on-returns-in-Err-clause-does
-
-pub news::new_callee-returns-in-Object-clause-does : goal.news::new_callee-returns-in-Object-clause-does
-news::new_callee-returns-in-Object-clause-does = news.new_callee-returns-in-Object-clause-does
-
-pub news::called_on-result_of_new-requires : goal.news::called_on-result_of_new-requires
-news::called_on-result_of_new-requires = news.called_on-result_of_new-requires
-
 -- ---- `within`
 
 pub within::within-value-requires : goal.within::within-value-requires
@@ -1544,11 +1416,17 @@ within::within-returns-in-Err-clause-found = within.within-returns-in-Err-clause
 pub within::within-returns-in-Err-clause-does : goal.within::within-returns-in-Err-clause-does
 within::within-returns-in-Err-clause-does = within.within-returns-in-Err-clause-does
 
-pub within::opened-inside-requires : goal.within::opened-inside-requires
-within::opened-inside-requires = within.opened-inside-requires
+pub within::opened-statement-done-requires : goal.within::opened-statement-done-requires
+within::opened-statement-done-requires = within.opened-statement-done-requires
 
-pub within::opened-returns-in-Some-clause-does : goal.within::opened-returns-in-Some-clause-does
-within::opened-returns-in-Some-clause-does = within.opened-returns-in-Some-clause-does
+pub within::opened-returns-in_ok-inner-in-Some-clause-later : goal.within::opened-returns-in_ok-inner-in-Some-clause-later
+within::opened-returns-in_ok-inner-in-Some-clause-later = within.opened-returns-in_ok-inner-in-Some-clause-later
+
+pub within::opened-returns-in_ok-inner-in-Some-clause-found : goal.within::opened-returns-in_ok-inner-in-Some-clause-found
+within::opened-returns-in_ok-inner-in-Some-clause-found = within.opened-returns-in_ok-inner-in-Some-clause-found
+
+pub within::opened-returns-in_ok-inner-in-Some-clause-does : goal.within::opened-returns-in_ok-inner-in-Some-clause-does
+within::opened-returns-in_ok-inner-in-Some-clause-does = within.opened-returns-in_ok-inner-in-Some-clause-does
 
 pub within::opened-returns-in-None-clause-later : goal.within::opened-returns-in-None-clause-later
 within::opened-returns-in-None-clause-later = within.opened-returns-in-None-clause-later
@@ -1558,18 +1436,6 @@ within::opened-returns-in-None-clause-found = within.opened-returns-in-None-clau
 
 pub within::opened-returns-in-None-clause-does : goal.within::opened-returns-in-None-clause-does
 within::opened-returns-in-None-clause-does = within.opened-returns-in-None-clause-does
-
-pub within::inside-statement-done-requires : goal.within::inside-statement-done-requires
-within::inside-statement-done-requires = within.inside-statement-done-requires
-
-pub within::inside-returns-clause-later : goal.within::inside-returns-clause-later
-within::inside-returns-clause-later = within.inside-returns-clause-later
-
-pub within::inside-returns-clause-found : goal.within::inside-returns-clause-found
-within::inside-returns-clause-found = within.inside-returns-clause-found
-
-pub within::inside-returns-clause-does : goal.within::inside-returns-clause-does
-within::inside-returns-clause-does = within.inside-returns-clause-does
 
 -- ---- `tries`
 
@@ -1587,15 +1453,6 @@ tries::throw_of-returns-in-Err-clause-found = tries.throw_of-returns-in-Err-clau
 
 pub tries::throw_of-returns-in-Err-clause-does : goal.tries::throw_of-returns-in-Err-clause-does
 tries::throw_of-returns-in-Err-clause-does = tries.throw_of-returns-in-Err-clause-does
-
-pub tries::attempt-block_ended-requires : goal.tries::attempt-block_ended-requires
-tries::attempt-block_ended-requires = tries.attempt-block_ended-requires
-
-pub tries::attempt-returns-in-Ok-clause-later : goal.tries::attempt-returns-in-Ok-clause-later
-tries::attempt-returns-in-Ok-clause-later = tries.attempt-returns-in-Ok-clause-later
-
-pub tries::attempt-returns-in-Ok-clause-does : goal.tries::attempt-returns-in-Ok-clause-does
-tries::attempt-returns-in-Ok-clause-does = tries.attempt-returns-in-Ok-clause-does
 
 pub tries::attempt-returns-in-Err-clause-later : goal.tries::attempt-returns-in-Err-clause-later
 tries::attempt-returns-in-Err-clause-later = tries.attempt-returns-in-Err-clause-later
@@ -1618,15 +1475,6 @@ tries::attempted-returns-clause-does = tries.attempted-returns-clause-does
 pub tries::attempted-returns-clause-caught : goal.tries::attempted-returns-clause-caught
 tries::attempted-returns-clause-caught = tries.attempted-returns-clause-caught
 
-pub tries::block_ended-caught-requires : goal.tries::block_ended-caught-requires
-tries::block_ended-caught-requires = tries.block_ended-caught-requires
-
-pub tries::block_ended-returns-in-Throws-clause-does : goal.tries::block_ended-returns-in-Throws-clause-does
-tries::block_ended-returns-in-Throws-clause-does = tries.block_ended-returns-in-Throws-clause-does
-
-pub tries::block_ended-returns-in_default-clause-does : goal.tries::block_ended-returns-in_default-clause-does
-tries::block_ended-returns-in_default-clause-does = tries.block_ended-returns-in_default-clause-does
-
 pub tries::caught-catch-requires : goal.tries::caught-catch-requires
 tries::caught-catch-requires = tries.caught-catch-requires
 
@@ -1638,33 +1486,6 @@ tries::caught-returns-in-None-clause-does = tries.caught-returns-in-None-clause-
 
 pub tries::catch-write-requires : goal.tries::catch-write-requires
 tries::catch-write-requires = tries.catch-write-requires
-
-pub tries::catch-handled-requires : goal.tries::catch-handled-requires
-tries::catch-handled-requires = tries.catch-handled-requires
-
-pub tries::catch-returns-clause-later : goal.tries::catch-returns-clause-later
-tries::catch-returns-clause-later = tries.catch-returns-clause-later
-
-pub tries::catch-returns-clause-does : goal.tries::catch-returns-clause-does
-tries::catch-returns-clause-does = tries.catch-returns-clause-does
-
-pub tries::handled-lastly-requires : goal.tries::handled-lastly-requires
-tries::handled-lastly-requires = tries.handled-lastly-requires
-
-pub tries::handled-returns-in-Ok-clause-later : goal.tries::handled-returns-in-Ok-clause-later
-tries::handled-returns-in-Ok-clause-later = tries.handled-returns-in-Ok-clause-later
-
-pub tries::handled-returns-in-Ok-clause-does : goal.tries::handled-returns-in-Ok-clause-does
-tries::handled-returns-in-Ok-clause-does = tries.handled-returns-in-Ok-clause-does
-
-pub tries::handled-returns-in-Err-clause-later : goal.tries::handled-returns-in-Err-clause-later
-tries::handled-returns-in-Err-clause-later = tries.handled-returns-in-Err-clause-later
-
-pub tries::handled-returns-in-Err-clause-found : goal.tries::handled-returns-in-Err-clause-found
-tries::handled-returns-in-Err-clause-found = tries.handled-returns-in-Err-clause-found
-
-pub tries::handled-returns-in-Err-clause-does : goal.tries::handled-returns-in-Err-clause-does
-tries::handled-returns-in-Err-clause-does = tries.handled-returns-in-Err-clause-does
 
 pub tries::in_scope-attempted-done-requires : goal.tries::in_scope-attempted-done-requires
 tries::in_scope-attempted-done-requires = tries.in_scope-attempted-done-requires
@@ -1678,29 +1499,8 @@ tries::in_scope-returns-clause-found = tries.in_scope-returns-clause-found
 pub tries::in_scope-returns-clause-does : goal.tries::in_scope-returns-clause-does
 tries::in_scope-returns-clause-does = tries.in_scope-returns-clause-does
 
-pub tries::lastly-finish_by-requires : goal.tries::lastly-finish_by-requires
-tries::lastly-finish_by-requires = tries.lastly-finish_by-requires
-
-pub tries::lastly-returns-in-Some-clause-does : goal.tries::lastly-returns-in-Some-clause-does
-tries::lastly-returns-in-Some-clause-does = tries.lastly-returns-in-Some-clause-does
-
 pub tries::lastly-returns-in-None-clause-does : goal.tries::lastly-returns-in-None-clause-does
 tries::lastly-returns-in-None-clause-does = tries.lastly-returns-in-None-clause-does
-
-pub tries::finish_by-returns-in-Ok-clause-does : goal.tries::finish_by-returns-in-Ok-clause-does
-tries::finish_by-returns-in-Ok-clause-does = tries.finish_by-returns-in-Ok-clause-does
-
-pub tries::finish_by-returns-in-Ok-clause-found : goal.tries::finish_by-returns-in-Ok-clause-found
-tries::finish_by-returns-in-Ok-clause-found = tries.finish_by-returns-in-Ok-clause-found
-
-pub tries::finish_by-returns-in-Err-clause-later : goal.tries::finish_by-returns-in-Err-clause-later
-tries::finish_by-returns-in-Err-clause-later = tries.finish_by-returns-in-Err-clause-later
-
-pub tries::finish_by-returns-in-Err-clause-found : goal.tries::finish_by-returns-in-Err-clause-found
-tries::finish_by-returns-in-Err-clause-found = tries.finish_by-returns-in-Err-clause-found
-
-pub tries::finish_by-returns-in-Err-clause-does : goal.tries::finish_by-returns-in-Err-clause-does
-tries::finish_by-returns-in-Err-clause-does = tries.finish_by-returns-in-Err-clause-does
 
 -- ---- `switches`
 
@@ -1755,8 +1555,8 @@ switches::cases-returns-in-Err-clause-found = switches.cases-returns-in-Err-clau
 pub switches::cases-returns-in-Err-clause-does : goal.switches::cases-returns-in-Err-clause-does
 switches::cases-returns-in-Err-clause-does = switches.cases-returns-in-Err-clause-does
 
-pub switches::cases-run_default-requires : goal.switches::cases-run_default-requires
-switches::cases-run_default-requires = switches.cases-run_default-requires
+pub switches::cases-run_statements-requires : goal.switches::cases-run_statements-requires
+switches::cases-run_statements-requires = switches.cases-run_statements-requires
 
 pub switches::cases-returns-clause-later : goal.switches::cases-returns-clause-later
 switches::cases-returns-clause-later = switches.cases-returns-clause-later
@@ -1766,9 +1566,6 @@ switches::cases-returns-clause-does = switches.cases-returns-clause-does
 
 pub switches::run_clauses-returns-clause-does : goal.switches::run_clauses-returns-clause-does
 switches::run_clauses-returns-clause-does = switches.run_clauses-returns-clause-does
-
-pub switches::run_default-returns-clause-does : goal.switches::run_default-returns-clause-does
-switches::run_default-returns-clause-does = switches.run_default-returns-clause-does
 
 pub switches::run_statements-loop-part-init : goal.switches::run_statements-loop-part-init
 switches::run_statements-loop-part-init = switches.run_statements-loop-part-init
@@ -1991,3 +1788,428 @@ statements::statement_form-returns-in-Some-Return-None-default-clause-found = st
 
 pub statements::statement_form-returns-in-Some-Return-None-default-clause-does : goal.statements::statement_form-returns-in-Some-Return-None-default-clause-does
 statements::statement_form-returns-in-Some-Return-None-default-clause-does = statements.statement_form-returns-in-Some-Return-None-default-clause-does
+
+-- ---- `operands`
+
+pub operands::asked-target_asked-requires : goal.operands::asked-target_asked-requires
+operands::asked-target_asked-requires = operands.asked-target_asked-requires
+
+pub operands::asked-returns-then-is_target-clause-does : goal.operands::asked-returns-then-is_target-clause-does
+operands::asked-returns-then-is_target-clause-does = operands.asked-returns-then-is_target-clause-does
+
+pub operands::asked-value-requires : goal.operands::asked-value-requires
+operands::asked-value-requires = operands.asked-value-requires
+
+pub operands::asked-value_told-requires : goal.operands::asked-value_told-requires
+operands::asked-value_told-requires = operands.asked-value_told-requires
+
+pub operands::asked-returns-in-Ok-clause-later : goal.operands::asked-returns-in-Ok-clause-later
+operands::asked-returns-in-Ok-clause-later = operands.asked-returns-in-Ok-clause-later
+
+pub operands::asked-returns-in-Ok-clause-does : goal.operands::asked-returns-in-Ok-clause-does
+operands::asked-returns-in-Ok-clause-does = operands.asked-returns-in-Ok-clause-does
+
+pub operands::asked-returns-in-Err-clause-later : goal.operands::asked-returns-in-Err-clause-later
+operands::asked-returns-in-Err-clause-later = operands.asked-returns-in-Err-clause-later
+
+pub operands::asked-returns-in-Err-clause-found : goal.operands::asked-returns-in-Err-clause-found
+operands::asked-returns-in-Err-clause-found = operands.asked-returns-in-Err-clause-found
+
+pub operands::asked-returns-in-Err-clause-does : goal.operands::asked-returns-in-Err-clause-does
+operands::asked-returns-in-Err-clause-does = operands.asked-returns-in-Err-clause-does
+
+pub operands::target_asked-reference_told-requires : goal.operands::target_asked-reference_told-requires
+operands::target_asked-reference_told-requires = operands.target_asked-reference_told-requires
+
+pub operands::target_asked-returns-in-Ok-clause-later : goal.operands::target_asked-returns-in-Ok-clause-later
+operands::target_asked-returns-in-Ok-clause-later = operands.target_asked-returns-in-Ok-clause-later
+
+pub operands::target_asked-returns-in-Ok-clause-does : goal.operands::target_asked-returns-in-Ok-clause-does
+operands::target_asked-returns-in-Ok-clause-does = operands.target_asked-returns-in-Ok-clause-does
+
+pub operands::target_asked-returns-in-Err-clause-later : goal.operands::target_asked-returns-in-Err-clause-later
+operands::target_asked-returns-in-Err-clause-later = operands.target_asked-returns-in-Err-clause-later
+
+pub operands::target_asked-returns-in-Err-clause-found : goal.operands::target_asked-returns-in-Err-clause-found
+operands::target_asked-returns-in-Err-clause-found = operands.target_asked-returns-in-Err-clause-found
+
+pub operands::target_asked-returns-in-Err-clause-does : goal.operands::target_asked-returns-in-Err-clause-does
+operands::target_asked-returns-in-Err-clause-does = operands.target_asked-returns-in-Err-clause-does
+
+pub prefixes::on_target-asked-requires : goal.prefixes::on_target-asked-requires
+prefixes::on_target-asked-requires = prefixes.on_target-asked-requires
+
+pub prefixes::on_target-asked-requires-in-Typeof : goal.prefixes::on_target-asked-requires-in-Typeof
+prefixes::on_target-asked-requires-in-Typeof = prefixes.on_target-asked-requires-in-Typeof
+
+-- ---- `for_ins`
+
+pub for_ins::for_in-returns-in-Err-clause-later : goal.for_ins::for_in-returns-in-Err-clause-later
+for_ins::for_in-returns-in-Err-clause-later = for_ins.for_in-returns-in-Err-clause-later
+
+pub for_ins::for_in-returns-in-Err-clause-found : goal.for_ins::for_in-returns-in-Err-clause-found
+for_ins::for_in-returns-in-Err-clause-found = for_ins.for_in-returns-in-Err-clause-found
+
+pub for_ins::for_in-returns-in-Err-clause-does : goal.for_ins::for_in-returns-in-Err-clause-does
+for_ins::for_in-returns-in-Err-clause-does = for_ins.for_in-returns-in-Err-clause-does
+
+pub for_ins::for_in-list_visits-requires : goal.for_ins::for_in-list_visits-requires
+for_ins::for_in-list_visits-requires = for_ins.for_in-list_visits-requires
+
+pub for_ins::for_in-run_visits-done-requires : goal.for_ins::for_in-run_visits-done-requires
+for_ins::for_in-run_visits-done-requires = for_ins.for_in-run_visits-done-requires
+
+pub for_ins::for_in-returns-in-Ok-listed-clause-later : goal.for_ins::for_in-returns-in-Ok-listed-clause-later
+for_ins::for_in-returns-in-Ok-listed-clause-later = for_ins.for_in-returns-in-Ok-listed-clause-later
+
+pub for_ins::for_in-returns-in-Ok-listed-clause-found : goal.for_ins::for_in-returns-in-Ok-listed-clause-found
+for_ins::for_in-returns-in-Ok-listed-clause-found = for_ins.for_in-returns-in-Ok-listed-clause-found
+
+pub for_ins::for_in-returns-in-Ok-listed-clause-does : goal.for_ins::for_in-returns-in-Ok-listed-clause-does
+for_ins::for_in-returns-in-Ok-listed-clause-does = for_ins.for_in-returns-in-Ok-listed-clause-does
+
+pub for_ins::for_in-returns-in-Err-listed-clause-later : goal.for_ins::for_in-returns-in-Err-listed-clause-later
+for_ins::for_in-returns-in-Err-listed-clause-later = for_ins.for_in-returns-in-Err-listed-clause-later
+
+pub for_ins::for_in-returns-in-Err-listed-clause-found : goal.for_ins::for_in-returns-in-Err-listed-clause-found
+for_ins::for_in-returns-in-Err-listed-clause-found = for_ins.for_in-returns-in-Err-listed-clause-found
+
+pub for_ins::for_in-returns-in-Err-listed-clause-does : goal.for_ins::for_in-returns-in-Err-listed-clause-does
+for_ins::for_in-returns-in-Err-listed-clause-does = for_ins.for_in-returns-in-Err-listed-clause-does
+
+pub for_ins::run_visits-rounds-init : goal.for_ins::run_visits-rounds-init
+for_ins::run_visits-rounds-init = for_ins.run_visits-rounds-init
+
+pub for_ins::run_visits-visit_next-requires : goal.for_ins::run_visits-visit_next-requires
+for_ins::run_visits-visit_next-requires = for_ins.run_visits-visit_next-requires
+
+pub for_ins::run_visits-rounds-preserved : goal.for_ins::run_visits-rounds-preserved
+for_ins::run_visits-rounds-preserved = for_ins.run_visits-rounds-preserved
+
+pub for_ins::run_visits-returns-in-Some-clause-later : goal.for_ins::run_visits-returns-in-Some-clause-later
+for_ins::run_visits-returns-in-Some-clause-later = for_ins.run_visits-returns-in-Some-clause-later
+
+pub for_ins::run_visits-returns-in-Some-clause-found : goal.for_ins::run_visits-returns-in-Some-clause-found
+for_ins::run_visits-returns-in-Some-clause-found = for_ins.run_visits-returns-in-Some-clause-found
+
+pub for_ins::run_visits-returns-in-Some-clause-does : goal.for_ins::run_visits-returns-in-Some-clause-does
+for_ins::run_visits-returns-in-Some-clause-does = for_ins.run_visits-returns-in-Some-clause-does
+
+pub for_ins::run_visits-returns-in-Err-clause-later : goal.for_ins::run_visits-returns-in-Err-clause-later
+for_ins::run_visits-returns-in-Err-clause-later = for_ins.run_visits-returns-in-Err-clause-later
+
+pub for_ins::run_visits-returns-in-Err-clause-does : goal.for_ins::run_visits-returns-in-Err-clause-does
+for_ins::run_visits-returns-in-Err-clause-does = for_ins.run_visits-returns-in-Err-clause-does
+
+pub for_ins::visit_next-next_present-requires : goal.for_ins::visit_next-next_present-requires
+for_ins::visit_next-next_present-requires = for_ins.visit_next-next_present-requires
+
+pub for_ins::visit_next-visit_target-requires : goal.for_ins::visit_next-visit_target-requires
+for_ins::visit_next-visit_target-requires = for_ins.visit_next-visit_target-requires
+
+pub for_ins::visit_next-returns-in-Target-clause-later : goal.for_ins::visit_next-returns-in-Target-clause-later
+for_ins::visit_next-returns-in-Target-clause-later = for_ins.visit_next-returns-in-Target-clause-later
+
+pub for_ins::visit_next-returns-in-Target-clause-does : goal.for_ins::visit_next-returns-in-Target-clause-does
+for_ins::visit_next-returns-in-Target-clause-does = for_ins.visit_next-returns-in-Target-clause-does
+
+pub for_ins::visit_next-reference_at-reference-requires : goal.for_ins::visit_next-reference_at-reference-requires
+for_ins::visit_next-reference_at-reference-requires = for_ins.visit_next-reference_at-reference-requires
+
+pub for_ins::visit_next-named-requires : goal.for_ins::visit_next-named-requires
+for_ins::visit_next-named-requires = for_ins.visit_next-named-requires
+
+pub for_ins::visit_next-returns-in-Variable-clause-later : goal.for_ins::visit_next-returns-in-Variable-clause-later
+for_ins::visit_next-returns-in-Variable-clause-later = for_ins.visit_next-returns-in-Variable-clause-later
+
+pub for_ins::visit_next-returns-in-Variable-clause-does : goal.for_ins::visit_next-returns-in-Variable-clause-does
+for_ins::visit_next-returns-in-Variable-clause-does = for_ins.visit_next-returns-in-Variable-clause-does
+
+pub for_ins::visit_next-returns-in-None-clause-later : goal.for_ins::visit_next-returns-in-None-clause-later
+for_ins::visit_next-returns-in-None-clause-later = for_ins.visit_next-returns-in-None-clause-later
+
+pub for_ins::visit_next-returns-in-None-clause-found : goal.for_ins::visit_next-returns-in-None-clause-found
+for_ins::visit_next-returns-in-None-clause-found = for_ins.visit_next-returns-in-None-clause-found
+
+pub for_ins::visit_next-returns-in-None-clause-visits : goal.for_ins::visit_next-returns-in-None-clause-visits
+for_ins::visit_next-returns-in-None-clause-visits = for_ins.visit_next-returns-in-None-clause-visits
+
+pub for_ins::visit_next-returns-in-None-clause-does : goal.for_ins::visit_next-returns-in-None-clause-does
+for_ins::visit_next-returns-in-None-clause-does = for_ins.visit_next-returns-in-None-clause-does
+
+pub for_ins::visit_target-named-requires : goal.for_ins::visit_target-named-requires
+for_ins::visit_target-named-requires = for_ins.visit_target-named-requires
+
+pub for_ins::visit_target-returns-in-Ok-clause-later : goal.for_ins::visit_target-returns-in-Ok-clause-later
+for_ins::visit_target-returns-in-Ok-clause-later = for_ins.visit_target-returns-in-Ok-clause-later
+
+pub for_ins::visit_target-returns-in-Ok-clause-does : goal.for_ins::visit_target-returns-in-Ok-clause-does
+for_ins::visit_target-returns-in-Ok-clause-does = for_ins.visit_target-returns-in-Ok-clause-does
+
+pub for_ins::visit_target-returns-in-Err-clause-later : goal.for_ins::visit_target-returns-in-Err-clause-later
+for_ins::visit_target-returns-in-Err-clause-later = for_ins.visit_target-returns-in-Err-clause-later
+
+pub for_ins::visit_target-returns-in-Err-clause-found : goal.for_ins::visit_target-returns-in-Err-clause-found
+for_ins::visit_target-returns-in-Err-clause-found = for_ins.visit_target-returns-in-Err-clause-found
+
+pub for_ins::visit_target-returns-in-Err-clause-does : goal.for_ins::visit_target-returns-in-Err-clause-does
+for_ins::visit_target-returns-in-Err-clause-does = for_ins.visit_target-returns-in-Err-clause-does
+
+pub for_ins::named-statement-requires : goal.for_ins::named-statement-requires
+for_ins::named-statement-requires = for_ins.named-statement-requires
+
+pub for_ins::named-body_ended-requires : goal.for_ins::named-body_ended-requires
+for_ins::named-body_ended-requires = for_ins.named-body_ended-requires
+
+pub for_ins::named-returns-in-Ok-clause-later : goal.for_ins::named-returns-in-Ok-clause-later
+for_ins::named-returns-in-Ok-clause-later = for_ins.named-returns-in-Ok-clause-later
+
+pub for_ins::named-returns-in-Ok-clause-found : goal.for_ins::named-returns-in-Ok-clause-found
+for_ins::named-returns-in-Ok-clause-found = for_ins.named-returns-in-Ok-clause-found
+
+pub for_ins::named-returns-in-Ok-clause-visits : goal.for_ins::named-returns-in-Ok-clause-visits
+for_ins::named-returns-in-Ok-clause-visits = for_ins.named-returns-in-Ok-clause-visits
+
+pub for_ins::named-returns-in-Ok-clause-does : goal.for_ins::named-returns-in-Ok-clause-does
+for_ins::named-returns-in-Ok-clause-does = for_ins.named-returns-in-Ok-clause-does
+
+pub for_ins::named-returns-in-Err-clause-later : goal.for_ins::named-returns-in-Err-clause-later
+for_ins::named-returns-in-Err-clause-later = for_ins.named-returns-in-Err-clause-later
+
+pub for_ins::named-returns-in-Err-clause-found : goal.for_ins::named-returns-in-Err-clause-found
+for_ins::named-returns-in-Err-clause-found = for_ins.named-returns-in-Err-clause-found
+
+pub for_ins::named-returns-in-Err-clause-does : goal.for_ins::named-returns-in-Err-clause-does
+for_ins::named-returns-in-Err-clause-does = for_ins.named-returns-in-Err-clause-does
+
+pub for_ins::named-returns-in_default-clause-later : goal.for_ins::named-returns-in_default-clause-later
+for_ins::named-returns-in_default-clause-later = for_ins.named-returns-in_default-clause-later
+
+pub for_ins::named-returns-in_default-clause-found : goal.for_ins::named-returns-in_default-clause-found
+for_ins::named-returns-in_default-clause-found = for_ins.named-returns-in_default-clause-found
+
+pub for_ins::named-returns-in_default-clause-visits : goal.for_ins::named-returns-in_default-clause-visits
+for_ins::named-returns-in_default-clause-visits = for_ins.named-returns-in_default-clause-visits
+
+pub for_ins::named-returns-in_default-clause-does : goal.for_ins::named-returns-in_default-clause-does
+for_ins::named-returns-in_default-clause-does = for_ins.named-returns-in_default-clause-does
+
+-- ---- `statements`: `for`-`in`
+
+pub statements::statement_form-for_in-requires : goal.statements::statement_form-for_in-requires
+statements::statement_form-for_in-requires = statements.statement_form-for_in-requires
+
+pub statements::statement_form-returns-in-Some-ForIn-clause-does : goal.statements::statement_form-returns-in-Some-ForIn-clause-does
+statements::statement_form-returns-in-Some-ForIn-clause-does = statements.statement_form-returns-in-Some-ForIn-clause-does
+
+pub statements::statement_form-for_in-requires-in-Some-ForVarIn : goal.statements::statement_form-for_in-requires-in-Some-ForVarIn
+statements::statement_form-for_in-requires-in-Some-ForVarIn = statements.statement_form-for_in-requires-in-Some-ForVarIn
+
+pub statements::statement_form-returns-in-Some-ForVarIn-clause-does : goal.statements::statement_form-returns-in-Some-ForVarIn-clause-does
+statements::statement_form-returns-in-Some-ForVarIn-clause-does = statements.statement_form-returns-in-Some-ForVarIn-clause-does
+
+-- ---- `stores`
+
+pub stores::effect-value-requires : goal.stores::effect-value-requires
+stores::effect-value-requires = stores.effect-value-requires
+
+pub stores::effect-returns-in-Ok-clause-later : goal.stores::effect-returns-in-Ok-clause-later
+stores::effect-returns-in-Ok-clause-later = stores.effect-returns-in-Ok-clause-later
+
+pub stores::effect-returns-in-Ok-clause-does : goal.stores::effect-returns-in-Ok-clause-does
+stores::effect-returns-in-Ok-clause-does = stores.effect-returns-in-Ok-clause-does
+
+pub stores::effect-returns-in-Err-clause-later : goal.stores::effect-returns-in-Err-clause-later
+stores::effect-returns-in-Err-clause-later = stores.effect-returns-in-Err-clause-later
+
+pub stores::effect-returns-in-Err-clause-does : goal.stores::effect-returns-in-Err-clause-does
+stores::effect-returns-in-Err-clause-does = stores.effect-returns-in-Err-clause-does
+
+-- ---- `news`
+
+pub news::constructed-create-requires : goal.news::constructed-create-requires
+news::constructed-create-requires = news.constructed-create-requires
+
+pub news::constructed-body_entered-requires : goal.news::constructed-body_entered-requires
+news::constructed-body_entered-requires = news.constructed-body_entered-requires
+
+pub news::constructed-result_of_new-requires : goal.news::constructed-result_of_new-requires
+news::constructed-result_of_new-requires = news.constructed-result_of_new-requires
+
+pub news::constructed-returns-in-Ok-clause-later : goal.news::constructed-returns-in-Ok-clause-later
+news::constructed-returns-in-Ok-clause-later = news.constructed-returns-in-Ok-clause-later
+
+pub news::constructed-returns-in-Ok-clause-found : goal.news::constructed-returns-in-Ok-clause-found
+news::constructed-returns-in-Ok-clause-found = news.constructed-returns-in-Ok-clause-found
+
+pub news::constructed-returns-in-Ok-clause-does : goal.news::constructed-returns-in-Ok-clause-does
+news::constructed-returns-in-Ok-clause-does = news.constructed-returns-in-Ok-clause-does
+
+pub news::constructed-returns-in-Err-clause-later : goal.news::constructed-returns-in-Err-clause-later
+news::constructed-returns-in-Err-clause-later = news.constructed-returns-in-Err-clause-later
+
+pub news::constructed-returns-in-Err-clause-found : goal.news::constructed-returns-in-Err-clause-found
+news::constructed-returns-in-Err-clause-found = news.constructed-returns-in-Err-clause-found
+
+pub news::constructed-returns-in-Err-clause-does : goal.news::constructed-returns-in-Err-clause-does
+news::constructed-returns-in-Err-clause-does = news.constructed-returns-in-Err-clause-does
+
+-- ---- `tries`
+
+pub tries::catch-in_scope-requires : goal.tries::catch-in_scope-requires
+tries::catch-in_scope-requires = tries.catch-in_scope-requires
+
+pub tries::catch-lastly-requires : goal.tries::catch-lastly-requires
+tries::catch-lastly-requires = tries.catch-lastly-requires
+
+pub tries::catch-returns-in-Ok-clause-later : goal.tries::catch-returns-in-Ok-clause-later
+tries::catch-returns-in-Ok-clause-later = tries.catch-returns-in-Ok-clause-later
+
+pub tries::catch-returns-in-Ok-clause-does : goal.tries::catch-returns-in-Ok-clause-does
+tries::catch-returns-in-Ok-clause-does = tries.catch-returns-in-Ok-clause-does
+
+pub tries::catch-returns-in-Err-clause-later : goal.tries::catch-returns-in-Err-clause-later
+tries::catch-returns-in-Err-clause-later = tries.catch-returns-in-Err-clause-later
+
+pub tries::catch-returns-in-Err-clause-found : goal.tries::catch-returns-in-Err-clause-found
+tries::catch-returns-in-Err-clause-found = tries.catch-returns-in-Err-clause-found
+
+pub tries::catch-returns-in-Err-clause-does : goal.tries::catch-returns-in-Err-clause-does
+tries::catch-returns-in-Err-clause-does = tries.catch-returns-in-Err-clause-does
+
+-- ---- `stores`
+
+pub stores::assign-assigned-requires : goal.stores::assign-assigned-requires
+stores::assign-assigned-requires = stores.assign-assigned-requires
+
+pub stores::assign-compounded-requires : goal.stores::assign-compounded-requires
+stores::assign-compounded-requires = stores.assign-compounded-requires
+
+pub stores::assign-returns-in-None-clause-later : goal.stores::assign-returns-in-None-clause-later
+stores::assign-returns-in-None-clause-later = stores.assign-returns-in-None-clause-later
+
+pub stores::assign-returns-in-None-clause-does : goal.stores::assign-returns-in-None-clause-does
+stores::assign-returns-in-None-clause-does = stores.assign-returns-in-None-clause-does
+
+pub stores::assign-returns-in-Some-clause-later : goal.stores::assign-returns-in-Some-clause-later
+stores::assign-returns-in-Some-clause-later = stores.assign-returns-in-Some-clause-later
+
+pub stores::assign-returns-in-Some-clause-does : goal.stores::assign-returns-in-Some-clause-does
+stores::assign-returns-in-Some-clause-does = stores.assign-returns-in-Some-clause-does
+
+-- ---- `tries`
+
+pub tries::attempt-caught-requires : goal.tries::attempt-caught-requires
+tries::attempt-caught-requires = tries.attempt-caught-requires
+
+pub tries::attempt-lastly-requires : goal.tries::attempt-lastly-requires
+tries::attempt-lastly-requires = tries.attempt-lastly-requires
+
+pub tries::attempt-returns-in-Throws-clause-later : goal.tries::attempt-returns-in-Throws-clause-later
+tries::attempt-returns-in-Throws-clause-later = tries.attempt-returns-in-Throws-clause-later
+
+pub tries::attempt-returns-in-Throws-clause-does : goal.tries::attempt-returns-in-Throws-clause-does
+tries::attempt-returns-in-Throws-clause-does = tries.attempt-returns-in-Throws-clause-does
+
+pub tries::attempt-returns-in_default-clause-later : goal.tries::attempt-returns-in_default-clause-later
+tries::attempt-returns-in_default-clause-later = tries.attempt-returns-in_default-clause-later
+
+pub tries::attempt-returns-in_default-clause-does : goal.tries::attempt-returns-in_default-clause-does
+tries::attempt-returns-in_default-clause-does = tries.attempt-returns-in_default-clause-does
+
+-- ---- `expressions`
+
+pub expressions::binary-and_right-requires : goal.expressions::binary-and_right-requires
+expressions::binary-and_right-requires = expressions.binary-and_right-requires
+
+pub expressions::binary-or_right-requires : goal.expressions::binary-or_right-requires
+expressions::binary-or_right-requires = expressions.binary-or_right-requires
+
+pub expressions::binary-both-requires : goal.expressions::binary-both-requires
+expressions::binary-both-requires = expressions.binary-both-requires
+
+pub expressions::binary-returns-in-And-clause-later : goal.expressions::binary-returns-in-And-clause-later
+expressions::binary-returns-in-And-clause-later = expressions.binary-returns-in-And-clause-later
+
+pub expressions::binary-returns-in-And-clause-does : goal.expressions::binary-returns-in-And-clause-does
+expressions::binary-returns-in-And-clause-does = expressions.binary-returns-in-And-clause-does
+
+pub expressions::binary-returns-in-Or-clause-later : goal.expressions::binary-returns-in-Or-clause-later
+expressions::binary-returns-in-Or-clause-later = expressions.binary-returns-in-Or-clause-later
+
+pub expressions::binary-returns-in-Or-clause-does : goal.expressions::binary-returns-in-Or-clause-does
+expressions::binary-returns-in-Or-clause-does = expressions.binary-returns-in-Or-clause-does
+
+pub expressions::binary-returns-in_default-clause-later : goal.expressions::binary-returns-in_default-clause-later
+expressions::binary-returns-in_default-clause-later = expressions.binary-returns-in_default-clause-later
+
+pub expressions::binary-returns-in_default-clause-does : goal.expressions::binary-returns-in_default-clause-does
+expressions::binary-returns-in_default-clause-does = expressions.binary-returns-in_default-clause-does
+
+-- ---- `tries`
+
+pub tries::lastly-statement-requires : goal.tries::lastly-statement-requires
+tries::lastly-statement-requires = tries.lastly-statement-requires
+
+pub tries::lastly-returns-in-Ok-clause-does : goal.tries::lastly-returns-in-Ok-clause-does
+tries::lastly-returns-in-Ok-clause-does = tries.lastly-returns-in-Ok-clause-does
+
+pub tries::lastly-returns-in-Ok-clause-found : goal.tries::lastly-returns-in-Ok-clause-found
+tries::lastly-returns-in-Ok-clause-found = tries.lastly-returns-in-Ok-clause-found
+
+pub tries::lastly-returns-in-Err-clause-later : goal.tries::lastly-returns-in-Err-clause-later
+tries::lastly-returns-in-Err-clause-later = tries.lastly-returns-in-Err-clause-later
+
+pub tries::lastly-returns-in-Err-clause-found : goal.tries::lastly-returns-in-Err-clause-found
+tries::lastly-returns-in-Err-clause-found = tries.lastly-returns-in-Err-clause-found
+
+pub tries::lastly-returns-in-Err-clause-does : goal.tries::lastly-returns-in-Err-clause-does
+tries::lastly-returns-in-Err-clause-does = tries.lastly-returns-in-Err-clause-does
+
+-- ---- `news`
+
+pub news::new_object-new_function-requires : goal.news::new_object-new_function-requires
+news::new_object-new_function-requires = news.new_object-new_function-requires
+
+pub news::new_object-returns-in-Object-clause-later : goal.news::new_object-returns-in-Object-clause-later
+news::new_object-returns-in-Object-clause-later = news.new_object-returns-in-Object-clause-later
+
+pub news::new_object-returns-in-Object-clause-does : goal.news::new_object-returns-in-Object-clause-does
+news::new_object-returns-in-Object-clause-does = news.new_object-returns-in-Object-clause-does
+
+pub news::new_object-returns-in_default-clause-later : goal.news::new_object-returns-in_default-clause-later
+news::new_object-returns-in_default-clause-later = news.new_object-returns-in_default-clause-later
+
+pub news::new_object-returns-in_default-clause-found : goal.news::new_object-returns-in_default-clause-found
+news::new_object-returns-in_default-clause-found = news.new_object-returns-in_default-clause-found
+
+pub news::new_object-returns-in_default-clause-does : goal.news::new_object-returns-in_default-clause-does
+news::new_object-returns-in_default-clause-does = news.new_object-returns-in_default-clause-does
+
+-- ---- `calls`
+
+pub calls::target_called-peek_value_of-requires : goal.calls::target_called-peek_value_of-requires
+calls::target_called-peek_value_of-requires = calls.target_called-peek_value_of-requires
+
+pub calls::target_called-evaluate_arguments-requires : goal.calls::target_called-evaluate_arguments-requires
+calls::target_called-evaluate_arguments-requires = calls.target_called-evaluate_arguments-requires
+
+pub calls::target_called-callee_read-requires : goal.calls::target_called-callee_read-requires
+calls::target_called-callee_read-requires = calls.target_called-callee_read-requires
+
+pub calls::target_called-returns-in-Some-Object-clause-later : goal.calls::target_called-returns-in-Some-Object-clause-later
+calls::target_called-returns-in-Some-Object-clause-later = calls.target_called-returns-in-Some-Object-clause-later
+
+pub calls::target_called-returns-in-Some-Object-clause-does : goal.calls::target_called-returns-in-Some-Object-clause-does
+calls::target_called-returns-in-Some-Object-clause-does = calls.target_called-returns-in-Some-Object-clause-does
+
+pub calls::target_called-returns-in_default-clause-later : goal.calls::target_called-returns-in_default-clause-later
+calls::target_called-returns-in_default-clause-later = calls.target_called-returns-in_default-clause-later
+
+pub calls::target_called-returns-in_default-clause-does : goal.calls::target_called-returns-in_default-clause-does
+calls::target_called-returns-in_default-clause-does = calls.target_called-returns-in_default-clause-does
+
+-- ---- `calls`
+
+pub calls::target_called-base_of-this-requires : goal.calls::target_called-base_of-this-requires
+calls::target_called-base_of-this-requires = calls.target_called-base_of-this-requires

@@ -5,13 +5,14 @@ use Rattle.wjs_model.specs.Soundness.{HasValue}
 use Rattle.wjs_frames.specs.Following.{Later}
 use Rattle.wjs_effects.specs.declared.elements.Sequence.TheVariants as kinds
 use Rattle.wjs_stopping.specs.Evaluating.{Leaves}
-use Rattle.wjs_direct.specs.Deeds.{goal_here, line_here}
-use Rattle.wjs_direct.specs.Variables.{variables_left}
-use Rattle.wjs_direct.proofs.Calling.{values_left}
-use Rattle.wjs_direct.proofs.Elements.{rest_from}
+use Rattle.wjs_direct_lines.specs.Deeds.{goal_here, line_here}
+use Rattle.wjs_direct_lines.specs.Variables.{variables_left}
+use Rattle.wjs_direct_lines.proofs.Calling.{values_left}
+use Rattle.wjs_direct_lines.proofs.Elements.{rest_from}
 use Rattle.wjs_direct.specs.Literals.{items_left, pairs_left}
 use Rattle.wjs_direct.specs.Switches.{cases_left, statements_left}
-use Rattle.wjs_direct.proofs.Constructing.{news_left}
+use Rattle.wjs_direct.specs.Visits.{HoldsVisits, visits_left}
+use Rattle.wjs_direct_lines.proofs.Constructing.{news_left}
 use Rattle.wjs_direct.proofs.+direct.Given as goal
 
 -- how much room is left, and which function hands it on to which
@@ -23,9 +24,6 @@ decreases-expressions::form g l = l.room * 32 + 31
 
 abbrev pub decreases-expressions::binary : goal.decreases-expressions::binary
 decreases-expressions::binary g l = l.room * 32 + 20
-
-abbrev pub decreases-expressions::after_left : goal.decreases-expressions::after_left
-decreases-expressions::after_left g l = l.room * 32 + 10
 
 abbrev pub decreases-expressions::and_right : goal.decreases-expressions::and_right
 decreases-expressions::and_right g l = l.room * 32 + 5
@@ -56,9 +54,6 @@ decreases-calls::call g l = l.room * 32 + 30
 
 abbrev pub decreases-calls::target_called : goal.decreases-calls::target_called
 decreases-calls::target_called g l = l.room * 32 + 29
-
-abbrev pub decreases-calls::reference_called : goal.decreases-calls::reference_called
-decreases-calls::reference_called g l = l.room * 32 + 28
 
 abbrev pub decreases-calls::value_called : goal.decreases-calls::value_called
 decreases-calls::value_called g l = l.room * 32 + 29
@@ -108,17 +103,11 @@ decreases-statements::result_of g l = l.room * 32 + 20
 abbrev pub decreases-statements::condition : goal.decreases-statements::condition
 decreases-statements::condition g l = l.room * 32 + 20
 
-abbrev pub decreases-statements::chosen : goal.decreases-statements::chosen
-decreases-statements::chosen g l = l.room * 32 + 10
-
 abbrev pub decreases-statements::run_block : goal.decreases-statements::run_block
 decreases-statements::run_block g l = l.room * 32 + 20
 
 abbrev pub decreases-variables::for_variables : goal.decreases-variables::for_variables
 decreases-variables::for_variables g l = l.room * 32 + 30
-
-abbrev pub decreases-variables::for_declared : goal.decreases-variables::for_declared
-decreases-variables::for_declared g l = l.room * 32 + 27
 
 abbrev pub decreases-variables::run_variables : goal.decreases-variables::run_variables
 decreases-variables::run_variables g l = l.room * 32 + 29
@@ -126,20 +115,11 @@ decreases-variables::run_variables g l = l.room * 32 + 29
 abbrev pub decreases-variables::declared : goal.decreases-variables::declared
 decreases-variables::declared g l = l.room * 32 + 25
 
-abbrev pub decreases-variables::initialised : goal.decreases-variables::initialised
-decreases-variables::initialised g l = l.room * 32 + 20
-
 abbrev pub decreases-choices::choice : goal.decreases-choices::choice
 decreases-choices::choice g l = l.room * 32 + 20
 
-abbrev pub decreases-choices::chosen : goal.decreases-choices::chosen
-decreases-choices::chosen g l = l.room * 32 + 10
-
 abbrev pub decreases-choices::comma : goal.decreases-choices::comma
 decreases-choices::comma g l = l.room * 32 + 20
-
-abbrev pub decreases-choices::behind : goal.decreases-choices::behind
-decreases-choices::behind g l = l.room * 32 + 10
 
 abbrev pub decreases-prefixes::prefix : goal.decreases-prefixes::prefix
 decreases-prefixes::prefix g l = l.room * 32 + 30
@@ -159,14 +139,8 @@ decreases-members::index_of_base g l = l.room * 32 + 10
 abbrev pub decreases-stores::effect : goal.decreases-stores::effect
 decreases-stores::effect g l = l.room * 32 + 10
 
-abbrev pub decreases-stores::valued : goal.decreases-stores::valued
-decreases-stores::valued g l = l.room * 32 + 5
-
 abbrev pub decreases-stores::assign : goal.decreases-stores::assign
 decreases-stores::assign g l = l.room * 32 + 29
-
-abbrev pub decreases-stores::assign_to : goal.decreases-stores::assign_to
-decreases-stores::assign_to g l = l.room * 32 + 28
 
 abbrev pub decreases-stores::assigned : goal.decreases-stores::assigned
 decreases-stores::assigned g l = l.room * 32 + 20
@@ -182,26 +156,17 @@ decreases-stores::compound_right g l = l.room * 32 + 20
 abbrev pub decreases-loops::for_expression : goal.decreases-loops::for_expression
 decreases-loops::for_expression g l = l.room * 32 + 28
 
-abbrev pub decreases-loops::for_begun : goal.decreases-loops::for_begun
-decreases-loops::for_begun g l = l.room * 32 + 27
-
 abbrev pub decreases-loops::run_loop : goal.decreases-loops::run_loop
 decreases-loops::run_loop g l = l.room * 32 + 26
 
 abbrev pub decreases-loops::first : goal.decreases-loops::first
 decreases-loops::first g l = l.room * 32 + 25
 
-abbrev pub decreases-loops::first_tested : goal.decreases-loops::first_tested
-decreases-loops::first_tested g l = l.room * 32 + 24
-
 abbrev pub decreases-loops::iterations : goal.decreases-loops::iterations
 decreases-loops::iterations g l = l.room * 32 + 25
 
 abbrev pub decreases-loops::iteration : goal.decreases-loops::iteration
 decreases-loops::iteration g l = l.room * 32 + 34
-
-abbrev pub decreases-loops::next_tested : goal.decreases-loops::next_tested
-decreases-loops::next_tested g l = l.room * 32 + 33
 
 abbrev pub decreases-loops::entered : goal.decreases-loops::entered
 decreases-loops::entered g l = l.room * 32 + 32
@@ -217,9 +182,6 @@ decreases-loops::body_run g l = l.room * 32 + 22
 
 abbrev pub decreases-loops::body_ended : goal.decreases-loops::body_ended
 decreases-loops::body_ended g l = l.room * 32 + 21
-
-abbrev pub decreases-loops::updated : goal.decreases-loops::updated
-decreases-loops::updated g l = l.room * 32 + 20
 
 abbrev pub decreases-loops::update_run : goal.decreases-loops::update_run
 decreases-loops::update_run g l = l.room * 32 + 19
@@ -348,9 +310,6 @@ invariant-arrays::run_items-loop-turn g l =
 abbrev pub decreases-news::new_object : goal.decreases-news::new_object
 decreases-news::new_object g l = l.room * 32 + 30
 
-abbrev pub decreases-news::new_callee : goal.decreases-news::new_callee
-decreases-news::new_callee g l = l.room * 32 + 29
-
 abbrev pub decreases-news::new_function : goal.decreases-news::new_function
 decreases-news::new_function g l = l.room * 32 + 28
 
@@ -359,12 +318,6 @@ decreases-news::new_arguments g l = l.room * 32 + 27
 
 abbrev pub decreases-news::constructed : goal.decreases-news::constructed
 decreases-news::constructed g l = l.room * 32 + 26
-
-abbrev pub decreases-news::made_on : goal.decreases-news::made_on
-decreases-news::made_on g l = l.room * 32 + 25
-
-abbrev pub decreases-news::called_on : goal.decreases-news::called_on
-decreases-news::called_on g l = l.room * 32 + 24
 
 abbrev pub decreases-news::new_arguments-loop-next : goal.decreases-news::new_arguments-loop-next
 decreases-news::new_arguments-loop-next g l = 4294967296 - l.at
@@ -386,9 +339,6 @@ decreases-within::within g l = l.room * 32 + 20
 abbrev pub decreases-within::opened : goal.decreases-within::opened
 decreases-within::opened g l = l.room * 32 + 10
 
-abbrev pub decreases-within::inside : goal.decreases-within::inside
-decreases-within::inside g l = l.room * 32 + 5
-
 abbrev pub decreases-tries::throw_of : goal.decreases-tries::throw_of
 decreases-tries::throw_of g l = l.room * 32 + 20
 
@@ -398,26 +348,17 @@ decreases-tries::attempt g l = l.room * 32 + 30
 abbrev pub decreases-tries::attempted : goal.decreases-tries::attempted
 decreases-tries::attempted g l = l.room * 32 + 2
 
-abbrev pub decreases-tries::block_ended : goal.decreases-tries::block_ended
-decreases-tries::block_ended g l = l.room * 32 + 28
-
 abbrev pub decreases-tries::caught : goal.decreases-tries::caught
 decreases-tries::caught g l = l.room * 32 + 27
 
 abbrev pub decreases-tries::catch : goal.decreases-tries::catch
 decreases-tries::catch g l = l.room * 32 + 26
 
-abbrev pub decreases-tries::handled : goal.decreases-tries::handled
-decreases-tries::handled g l = l.room * 32 + 25
-
 abbrev pub decreases-tries::in_scope : goal.decreases-tries::in_scope
 decreases-tries::in_scope g l = l.room * 32 + 20
 
 abbrev pub decreases-tries::lastly : goal.decreases-tries::lastly
 decreases-tries::lastly g l = l.room * 32 + 15
-
-abbrev pub decreases-tries::finish_by : goal.decreases-tries::finish_by
-decreases-tries::finish_by g l = l.room * 32 + 10
 
 -- `switch`
 
@@ -429,9 +370,6 @@ decreases-switches::cases g l = l.room * 32 + 29
 
 abbrev pub decreases-switches::run_clauses : goal.decreases-switches::run_clauses
 decreases-switches::run_clauses g l = l.room * 32 + 20
-
-abbrev pub decreases-switches::run_default : goal.decreases-switches::run_default
-decreases-switches::run_default g l = l.room * 32 + 20
 
 abbrev pub decreases-switches::run_statements : goal.decreases-switches::run_statements
 decreases-switches::run_statements g l = l.room * 32 + 10
@@ -498,4 +436,42 @@ invariant-do_loops::iterations-rounds g l =
       left : Leaves m (goal_here m old l.frame (Again l.node.0)) (goal_here m l.config l.frame (Again l.node.0)) old l.config;
       later : Later m old l.config;
       empty : l.stops.waits ≡ [];
+    }
+
+-- `delete` and `typeof`
+abbrev pub decreases-operands::asked : goal.decreases-operands::asked
+decreases-operands::asked g l = l.room * 32 + 27
+
+abbrev pub decreases-operands::target_asked : goal.decreases-operands::target_asked
+decreases-operands::target_asked g l = l.room * 32 + 20
+
+-- the loop `for`-`in`
+abbrev pub decreases-for_ins::for_in : goal.decreases-for_ins::for_in
+decreases-for_ins::for_in g l = l.room * 32 + 30
+
+abbrev pub decreases-for_ins::run_visits : goal.decreases-for_ins::run_visits
+decreases-for_ins::run_visits g l = l.room * 32 + 27
+
+abbrev pub decreases-for_ins::visit_next : goal.decreases-for_ins::visit_next
+decreases-for_ins::visit_next g l = l.room * 32 + 26
+
+abbrev pub decreases-for_ins::visit_target : goal.decreases-for_ins::visit_target
+decreases-for_ins::visit_target g l = l.room * 32 + 24
+
+abbrev pub decreases-for_ins::named : goal.decreases-for_ins::named
+decreases-for_ins::named g l = l.room * 32 + 23
+
+abbrev pub decreases-for_ins::run_visits-rounds : goal.decreases-for_ins::run_visits-rounds
+decreases-for_ins::run_visits-rounds g l = l.turns
+
+abbrev pub invariant-for_ins::run_visits-rounds : goal.invariant-for_ins::run_visits-rounds
+invariant-for_ins::run_visits-rounds g l =
+    let m = g.S.WorldStore.meaning in
+    let old = l.initial.config in
+    let f = l.frame in
+    record {
+      left : Leaves m (line_here m old f (visits_left l.node l.taker l.body l.initial.visits.held)) (line_here m l.config f (visits_left l.node l.taker l.body l.visits.held)) old l.config;
+      later : Later m old l.config;
+      empty : l.stops.waits ≡ [];
+      visits : HoldsVisits m l.config f l.node l.visits;
     }

@@ -12,8 +12,8 @@ use Rattle.wjs_frames.proofs.Parting.{stands_later}
 use Rattle.wjs_heap_steps.proofs.Later.{later_same, later_twice}
 use Rattle.wjs_literals.specs.Parts.{items_in}
 use Rattle.wjs_stopping.specs.Evaluating.{Leaves}
-use Rattle.wjs_direct.specs.Deeds.{line_here}
-use Rattle.wjs_direct.proofs.Parts.{broke_found, broke_later, later_then}
+use Rattle.wjs_direct_lines.specs.Deeds.{line_here}
+use Rattle.wjs_direct_lines.proofs.Parts.{broke_found, broke_later, later_then}
 use Rattle.wjs_direct.specs.Literals.{items_left}
 use Rattle.wjs_direct.proofs.ArrayLiterals.{array_made, item_broke, item_given, item_there, items_done, items_passed, last_broke, last_given, last_skipped, length_given}
 use Rattle.wjs_direct.proofs.+direct.Goals as goal

@@ -26,11 +26,11 @@ use Rattle.wjs_variables.proofs.StandingBodies.{function_at}
 use Rattle.wjs_stopping.specs.Ends.{gives_in}
 use Rattle.wjs_stopping.specs.Evaluating.{Evaluates, HasBroken, HasOutcome, InMemory}
 use Rattle.wjs_stopping.specs.Waiting.{WaitsAt, at_node}
-use Rattle.wjs_direct.specs.Deeds.{goal_here, line_here}
-use Rattle.wjs_direct.proofs.Forming.{form_goes_on, node_there}
-use Rattle.wjs_direct.proofs.Parts.{broke_does, broke_found, broke_later, later_stopped, later_then}
-use Rattle.wjs_direct.proofs.Elements.{element_form, element_passed, element_then, rest_all, rest_ended, then_moved, waits_then}
-use Rattle.wjs_direct.proofs.Entering.{body_ready_there, body_looked, body_ready, body_inside}
+use Rattle.wjs_direct_lines.specs.Deeds.{goal_here, line_here}
+use Rattle.wjs_direct_lines.proofs.Forming.{form_goes_on, node_there}
+use Rattle.wjs_direct_lines.proofs.Parts.{broke_does, broke_found, broke_later, later_stopped, later_then}
+use Rattle.wjs_direct_lines.proofs.Elements.{element_form, element_passed, element_then, rest_all, rest_ended, then_moved, waits_then}
+use Rattle.wjs_direct_lines.proofs.Entering.{body_ready_there, body_looked, body_ready, body_inside}
 use Rattle.wjs_direct.proofs.+direct.Goals as goal
 
 -- ---- bodies

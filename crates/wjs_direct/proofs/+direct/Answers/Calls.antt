@@ -33,14 +33,14 @@ use Rattle.wjs_quick.proofs.Coming.{later_left, one_less}
 use Rattle.wjs_stopping.specs.Ends.{gives_in}
 use Rattle.wjs_stopping.specs.Evaluating.{Evaluates, Leaves}
 use Rattle.wjs_stopping.specs.Waiting.{WaitsAt, at_node}
-use Rattle.wjs_direct.specs.Deeds.{line_here, refers_in, call_held}
-use Rattle.wjs_direct.proofs.Forming.{form_goes_on}
-use Rattle.wjs_direct.proofs.Parts.{broke_does, broke_found, broke_later, later_stopped, later_then, stop_found, shortened}
-use Rattle.wjs_direct.proofs.NativeCalls.{native_entered}
-use Rattle.wjs_direct.proofs.Calling.{callee_stands, call_entered, value_entered, callee_waits, callee_valued, argument_stands, values_later, values_left, values_first, argument_given, argument_broken, arguments_done, call_looks, call_does, script_entered, body_does, body_found, body_paid}
-use Rattle.wjs_direct.proofs.Holdings.{call_there}
-use Rattle.wjs_direct.proofs.Assigning.{broken_as}
-use Rattle.wjs_direct.proofs.ReferenceReading.{callee_goes, look_reads}
+use Rattle.wjs_direct_lines.specs.Deeds.{line_here, refers_in, call_held}
+use Rattle.wjs_direct_lines.proofs.Forming.{form_goes_on}
+use Rattle.wjs_direct_lines.proofs.Parts.{broke_does, broke_found, broke_later, later_stopped, later_then, stop_found, shortened}
+use Rattle.wjs_direct_lines.proofs.NativeCalls.{native_entered}
+use Rattle.wjs_direct_lines.proofs.Calling.{callee_stands, call_entered, value_entered, callee_waits, callee_valued, argument_stands, values_later, values_left, values_first, argument_given, argument_broken, arguments_done, call_looks, call_does, script_entered, body_does, body_found, body_paid}
+use Rattle.wjs_direct_lines.proofs.Holdings.{call_there}
+use Rattle.wjs_direct_lines.proofs.Assigning.{broken_as}
+use Rattle.wjs_direct_lines.proofs.ReferenceReading.{callee_goes, look_reads}
 use Rattle.wjs_direct.proofs.+direct.Goals as goal
 
 -- ---- calls: the callee
@@ -73,8 +73,31 @@ call-returns-else-is_target-clause-does g t c =
     value_entered g.S.WorldStore.meaning c.args.config.now c.args.frame.now c.args.node c.args.callee c.requires.callee.0 c.requires.callee.1 gives_in c.value_called.result new.stops.waits new.stops.top new.config
     (λ t. c.is_target.ensures t ∙ c.if-is_target.false) c.value_called.ensures.does
 
-pub target_called-reference_called-requires : goal.calls::target_called-reference_called-requires
-target_called-reference_called-requires g t c =
+pub target_called-peek_value_of-requires : goal.calls::target_called-peek_value_of-requires
+target_called-peek_value_of-requires g t c =
+    let l = c.in-Ok.ensures.later in
+    record { base = l.base; there = l.frames c.args.frame.now c.requires.there; reference = c.in-Ok.ensures.found.0 }
+
+pub target_called-base_of-this-requires : goal.calls::target_called-base_of-this-requires
+target_called-base_of-this-requires g t c = c.in-Ok.ensures.found.0
+
+pub target_called-evaluate_arguments-requires : goal.calls::target_called-evaluate_arguments-requires
+target_called-evaluate_arguments-requires g t c =
+    let m = g.S.WorldStore.meaning in
+    let old = c.args.config.now in
+    let f = c.args.frame.now in
+    let mid = c.target.new.config in
+    let l = c.in-Ok.ensures.later in
+    let base : Base m mid = l.base in
+    let there : IsThere m mid f = l.frames f c.requires.there in
+    let node : StandsHere mid f c.args.node = stands_later m old f mid c.args.node l c.requires.node in
+    let empty : c.target.new.stops.waits ≡ [] = c.in-Ok.ensures.found.1 in
+    let function : HasObject mid c.in-Some-Object.function = subst (HasValue mid) c.in-Some-Object.field-0-is c.in-Some-Object.ensures.found in
+    let this : HasValue mid c.base_of-this.result = c.base_of-this.ensures.found in
+    search (rules, base, there, node, empty, function, this)
+
+pub target_called-callee_read-requires : goal.calls::target_called-callee_read-requires
+target_called-callee_read-requires g t c =
     let m = g.S.WorldStore.meaning in
     let old = c.args.config.now in
     let f = c.args.frame.now in
@@ -87,21 +110,42 @@ target_called-reference_called-requires g t c =
     let reference : HasReference mid c.in-Ok.reference = c.in-Ok.ensures.found.0 in
     search (rules, base, there, node, empty, reference)
 
-pub target_called-returns-in-Ok-clause-later : goal.calls::target_called-returns-in-Ok-clause-later
-target_called-returns-in-Ok-clause-later g t c = later_then g.S.WorldStore.meaning c.args.config.now c.target.new.config c.reference_called.new.config c.reference_called.result c.in-Ok.ensures.later c.reference_called.ensures.later
+pub target_called-returns-in-Some-Object-clause-later : goal.calls::target_called-returns-in-Some-Object-clause-later
+target_called-returns-in-Some-Object-clause-later g t c =
+    later_then g.S.WorldStore.meaning c.args.config.now c.target.new.config c.evaluate_arguments.new.config c.evaluate_arguments.result c.in-Ok.ensures.later c.evaluate_arguments.ensures.later
 
-pub target_called-returns-in-Ok-clause-does : goal.calls::target_called-returns-in-Ok-clause-does
-target_called-returns-in-Ok-clause-does g t c =
+pub target_called-returns-in-Some-Object-clause-does : goal.calls::target_called-returns-in-Some-Object-clause-does
+target_called-returns-in-Some-Object-clause-does g t c =
     let m = g.S.WorldStore.meaning in
     let old = c.args.config.now in
     let mid = c.target.new.config in
-    let new = c.reference_called.new in
     let f = c.args.frame.now in
     let r = c.in-Ok.reference in
-    form_goes_on m refers_in gives_in old mid new.config f (AtTarget c.args.callee.0) (λ t env. then_reference (call_reference (arguments_of (node_in t (node_among old.units.items f.tree c.args.node))) env)) r
-    c.reference_called.result c.target.new.stops.waits c.target.new.stops.top new.stops.waits new.stops.top c.in-Ok.ensures.later c.in-Ok.ensures.does
-    (subst (λ (us : Vec Program Global). Evaluates m (line_here m mid f (λ t env. call_reference (arguments_of (node_in t (node_among us.items f.tree c.args.node))) env (reference_in t r))) gives_in c.reference_called.result new.stops.waits new.stops.top mid new.config)
-    c.in-Ok.ensures.later.units c.reference_called.ensures.does)
+    let k = c.evaluate_arguments.new in
+    let found = values.Object c.in-Some-Object.function in
+    let reads = look_reads m mid f r found (subst (λ (v : Value). Peeks m (λ u. evaluated (reference_in u r) (env_in m mid u f)) (λ u. Gives (value_in u v)) mid) c.in-Some-Object.field-0-is c.in-Some-Object.ensures.peeks) in
+    form_goes_on m refers_in gives_in old mid k.config f (AtTarget c.args.callee.0) (λ t env. then_reference (call_reference (arguments_of (node_in t (node_among old.units.items f.tree c.args.node))) env)) r
+    c.evaluate_arguments.result c.target.new.stops.waits c.target.new.stops.top k.stops.waits k.stops.top c.in-Ok.ensures.later c.in-Ok.ensures.does
+    (subst (λ (us : Vec Program Global). Evaluates m (line_here m mid f (λ t env. call_reference (arguments_of (node_in t (node_among us.items f.tree c.args.node))) env (reference_in t r))) gives_in c.evaluate_arguments.result k.stops.waits k.stops.top mid k.config)
+    c.in-Ok.ensures.later.units (callee_goes m mid mid k.config f r (λ u. arguments_of (node_in u (node_among mid.units.items f.tree c.args.node))) found c.base_of-this.result c.evaluate_arguments.result k.stops.waits k.stops.top
+    (later_same m mid c.in-Ok.ensures.later.base) reads c.base_of-this.ensures.is c.evaluate_arguments.ensures.does))
+
+pub target_called-returns-in_default-clause-later : goal.calls::target_called-returns-in_default-clause-later
+target_called-returns-in_default-clause-later g t c =
+    later_then g.S.WorldStore.meaning c.args.config.now c.target.new.config c.callee_read.new.config c.callee_read.result c.in-Ok.ensures.later c.callee_read.ensures.later
+
+pub target_called-returns-in_default-clause-does : goal.calls::target_called-returns-in_default-clause-does
+target_called-returns-in_default-clause-does g t c =
+    let m = g.S.WorldStore.meaning in
+    let old = c.args.config.now in
+    let mid = c.target.new.config in
+    let f = c.args.frame.now in
+    let r = c.in-Ok.reference in
+    let k = c.callee_read.new in
+    form_goes_on m refers_in gives_in old mid k.config f (AtTarget c.args.callee.0) (λ t env. then_reference (call_reference (arguments_of (node_in t (node_among old.units.items f.tree c.args.node))) env)) r
+    c.callee_read.result c.target.new.stops.waits c.target.new.stops.top k.stops.waits k.stops.top c.in-Ok.ensures.later c.in-Ok.ensures.does
+    (subst (λ (us : Vec Program Global). Evaluates m (line_here m mid f (λ t env. call_reference (arguments_of (node_in t (node_among us.items f.tree c.args.node))) env (reference_in t r))) gives_in c.callee_read.result k.stops.waits k.stops.top mid k.config)
+    c.in-Ok.ensures.later.units c.callee_read.ensures.does)
 
 pub target_called-returns-in-Err-clause-found : goal.calls::target_called-returns-in-Err-clause-found
 target_called-returns-in-Err-clause-found g t c =
@@ -120,18 +164,6 @@ target_called-returns-in-Err-clause-does g t c =
     broke_does m Reference Value old c.target.new.config new.config f c.args.node [] (points.Expr expr.CalleeTarget) c.in-Err.end stops.waits stops.top c.waits.result new.stops.waits new.stops.top
     c.waits.ensures.same c.waits.ensures.waits refers_in gives_in (AtTarget c.args.callee.0) (λ t env. then_reference (call_reference (arguments_of (node_in t (node_among old.units.items f.tree c.args.node))) env))
     (callee_waits m old c.target.new.config f c.args.node) (λ t env e. refl) c.in-Err.ensures.later c.in-Err.ensures.does
-
-pub reference_called-returns-in-Some-Object-clause-does : goal.calls::reference_called-returns-in-Some-Object-clause-does
-reference_called-returns-in-Some-Object-clause-does g t c =
-    let m = g.S.WorldStore.meaning in
-    let old = c.args.config.now in
-    let f = c.args.frame.now in
-    let k = c.evaluate_arguments.new in
-    let found = values.Object c.in-Some-Object.function in
-    callee_goes m old old k.config f c.args.reference (λ u. arguments_of (node_in u (node_among old.units.items f.tree c.args.node))) found c.base_of-this.result c.evaluate_arguments.result k.stops.waits k.stops.top
-    (later_same m old c.requires.base) (look_reads m old f c.args.reference found
-    (subst (λ (v : Value). Peeks m (λ u. evaluated (reference_in u c.args.reference) (env_in m old u f)) (λ u. Gives (value_in u v)) old) c.in-Some-Object.field-0-is c.in-Some-Object.ensures.peeks))
-    c.base_of-this.ensures.is c.evaluate_arguments.ensures.does
 
 pub callee_read-evaluate_arguments-requires : goal.calls::callee_read-evaluate_arguments-requires
 callee_read-evaluate_arguments-requires g t c =

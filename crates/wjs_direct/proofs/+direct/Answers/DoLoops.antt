@@ -23,11 +23,12 @@ use Rattle.wjs_heap_steps.proofs.Later.{later_same, later_twice}
 use Rattle.wjs_quick.proofs.Coming.{later_left}
 use Rattle.wjs_stopping.specs.Ends.{gives_in}
 use Rattle.wjs_stopping.specs.Evaluating.{Leaves, outcome_in}
-use Rattle.wjs_direct.specs.Deeds.{goal_here, line_here, form_here}
+use Rattle.wjs_direct_lines.specs.Deeds.{goal_here, line_here, form_here}
 use Rattle.wjs_stopping.proofs.Evaluating.{in_memory, leaves_all}
-use Rattle.wjs_direct.proofs.Parts.{broke_does, broke_found, broke_later, due_does, later_stopped, later_then, stop_found}
-use Rattle.wjs_direct.proofs.Assigning.{broken_as}
-use Rattle.wjs_direct.proofs.Looping.{asks_test, comes_behind, entry_broke, entry_left, line_begins, part_left, round_begun, round_ended, round_later, round_next}
+use Rattle.wjs_direct_lines.proofs.Parts.{broke_does, broke_found, broke_later, due_does, later_stopped, later_then, stop_found}
+use Rattle.wjs_direct_lines.proofs.Assigning.{broken_as}
+use Rattle.wjs_direct_lines.proofs.Nesting.{comes_behind, entry_broke, entry_left, line_begins, part_left}
+use Rattle.wjs_direct.proofs.Looping.{asks_test, round_begun, round_ended, round_later, round_next}
 use Rattle.wjs_direct.specs.Rounds.{HasRound, IsDo, do_round, round_left}
 use Rattle.wjs_direct.proofs.+direct.Goals as goal
 

@@ -4,6 +4,7 @@ use Rattle.std.specs.Prelude.{Err}
 use Rattle.wjs_base.specs.declared.values.Value.{Value}
 use Rattle.wjs_by_content.specs.Tables.{value_in}
 use Rattle.wjs_tree.specs.Operators.{compound}
+use Rattle.wjs_tree.specs.declared.operators.BinaryOperator.{BinaryOperator}
 use Rattle.wjs_tree.specs.declared.node.Node.TheVariants as nodes
 use Rattle.wjs_meaning.specs.Deeds.{AtExpr, then_value, AtTarget, then_reference, Eval}
 use Rattle.wjs_model.specs.Waiting.{fix_in}
@@ -27,9 +28,9 @@ use Rattle.wjs_quick.proofs.Operations.{left_is_held, and_goes_on, and_ends, or_
 use Rattle.wjs_stopping.specs.Ends.{gives_in}
 use Rattle.wjs_stopping.specs.Evaluating.{Evaluates}
 use Rattle.wjs_stopping.specs.Waiting.{at_node}
-use Rattle.wjs_direct.specs.Deeds.{IsCallee, IsFunctionExpression, goal_here}
-use Rattle.wjs_direct.proofs.Forming.{form_goes_on, line_ended, node_there}
-use Rattle.wjs_direct.proofs.Parts.{broke_does, broke_found, broke_later, did, later_stopped, later_then, line_form, line_last, ready_does, step_does, stepped, stop_found}
+use Rattle.wjs_direct_lines.specs.Deeds.{IsCallee, IsFunctionExpression, goal_here, line_here}
+use Rattle.wjs_direct_lines.proofs.Forming.{form_goes_on, line_ended, node_there}
+use Rattle.wjs_direct_lines.proofs.Parts.{broke_does, broke_found, broke_later, did, later_stopped, later_then, line_form, line_last, ready_does, step_does, stepped, stop_found}
 use Rattle.wjs_model.specs.declared.point.Fix.TheVariants as fixes
 use Rattle.wjs_direct.specs.Literals.{IsArrayLiteral, IsObjectLiteral}
 use Rattle.wjs_direct.proofs.+direct.Goals as goal
@@ -158,8 +159,38 @@ binary-value-requires g t c =
     let left : StandsHere old f c.args.left = stands_here m old (at_node f c.args.node []) (nodes.Binary c.args.left c.args.operator c.args.right) c.args.left (node_there m old f c.args.node [] c.requires.there c.requires.node tt) c.requires.is (inl refl) in
     search (rules, left)
 
-pub binary-after_left-requires : goal.expressions::binary-after_left-requires
-binary-after_left-requires g t c =
+pub binary-and_right-requires : goal.expressions::binary-and_right-requires
+binary-and_right-requires g t c =
+    let m = g.S.WorldStore.meaning in
+    let old = c.args.config.now in
+    let f = c.args.frame.now in
+    let mid = c.value.new.config in
+    let l = c.in-Ok.ensures.later in
+    let base : Base m mid = l.base in
+    let there : IsThere m mid f = l.frames f c.requires.there in
+    let empty : c.value.new.stops.waits ≡ [] = c.in-Ok.ensures.found.1 in
+    let right : StandsHere mid f c.args.right = stands_later m old f mid c.args.right l
+    (stands_here m old (at_node f c.args.node []) (nodes.Binary c.args.left c.args.operator c.args.right) c.args.right (node_there m old f c.args.node [] c.requires.there c.requires.node tt) c.requires.is (inr (inl refl))) in
+    let first : HasValue mid c.in-Ok.first = c.in-Ok.ensures.found.0 in
+    search (rules, base, there, empty, right, first)
+
+pub binary-or_right-requires : goal.expressions::binary-or_right-requires
+binary-or_right-requires g t c =
+    let m = g.S.WorldStore.meaning in
+    let old = c.args.config.now in
+    let f = c.args.frame.now in
+    let mid = c.value.new.config in
+    let l = c.in-Ok.ensures.later in
+    let base : Base m mid = l.base in
+    let there : IsThere m mid f = l.frames f c.requires.there in
+    let empty : c.value.new.stops.waits ≡ [] = c.in-Ok.ensures.found.1 in
+    let right : StandsHere mid f c.args.right = stands_later m old f mid c.args.right l
+    (stands_here m old (at_node f c.args.node []) (nodes.Binary c.args.left c.args.operator c.args.right) c.args.right (node_there m old f c.args.node [] c.requires.there c.requires.node tt) c.requires.is (inr (inl refl))) in
+    let first : HasValue mid c.in-Ok.first = c.in-Ok.ensures.found.0 in
+    search (rules, base, there, empty, right, first)
+
+pub binary-both-requires : goal.expressions::binary-both-requires
+binary-both-requires g t c =
     let m = g.S.WorldStore.meaning in
     let old = c.args.config.now in
     let f = c.args.frame.now in
@@ -174,32 +205,54 @@ binary-after_left-requires g t c =
     let first : HasValue mid c.in-Ok.first = c.in-Ok.ensures.found.0 in
     search (rules, base, there, node, empty, right, first)
 
-pub binary-returns-in-Ok-clause-later : goal.expressions::binary-returns-in-Ok-clause-later
-binary-returns-in-Ok-clause-later g t c =
-    later_then g.S.WorldStore.meaning c.args.config.now c.value.new.config c.after_left.new.config c.after_left.result c.in-Ok.ensures.later c.after_left.ensures.later
+pub binary-returns-in-And-clause-later : goal.expressions::binary-returns-in-And-clause-later
+binary-returns-in-And-clause-later g t c =
+    later_then g.S.WorldStore.meaning c.args.config.now c.value.new.config c.and_right.new.config c.and_right.result c.in-Ok.ensures.later c.and_right.ensures.later
 
-pub binary-returns-in-Ok-clause-does : goal.expressions::binary-returns-in-Ok-clause-does
-binary-returns-in-Ok-clause-does g t c =
-    let s = c.value.new.stops in
-    let k = c.after_left.new.stops in
-    form_goes_on g.S.WorldStore.meaning gives_in gives_in c.args.config.now c.value.new.config c.after_left.new.config c.args.frame.now (AtExpr c.args.left.0) (λ t env. then_value (line.binary_left c.args.operator c.args.right.0 env)) c.in-Ok.first
-    c.after_left.result s.waits s.top k.waits k.top c.in-Ok.ensures.later c.in-Ok.ensures.does c.after_left.ensures.does
-
-pub after_left-returns-in-And-clause-does : goal.expressions::after_left-returns-in-And-clause-does
-after_left-returns-in-And-clause-does g t c = rw c.in-And.is c.and_right.ensures.does
-
-pub after_left-returns-in-Or-clause-does : goal.expressions::after_left-returns-in-Or-clause-does
-after_left-returns-in-Or-clause-does g t c = rw c.in-Or.is c.or_right.ensures.does
-
-pub after_left-returns-in_default-clause-does : goal.expressions::after_left-returns-in_default-clause-does
-after_left-returns-in_default-clause-does g t c =
+pub binary-returns-in-And-clause-does : goal.expressions::binary-returns-in-And-clause-does
+binary-returns-in-And-clause-does g t c =
     let m = g.S.WorldStore.meaning in
-    let old = c.args.config.now in
     let f = c.args.frame.now in
+    let mid = c.value.new.config in
+    let new = c.and_right.new.config in
+    let v = c.in-Ok.first in
+    let s = c.value.new.stops in
+    let k = c.and_right.new.stops in
+    form_goes_on m gives_in gives_in c.args.config.now mid new f (AtExpr c.args.left.0) (λ t env. then_value (line.binary_left c.args.operator c.args.right.0 env)) v c.and_right.result s.waits s.top k.waits k.top c.in-Ok.ensures.later c.in-Ok.ensures.does
+    (subst (λ (o : BinaryOperator). Evaluates m (line_here m mid f (λ t env. line.binary_left o c.args.right.0 env (value_in t v))) gives_in c.and_right.result k.waits k.top mid new) (sym c.in-And.is) c.and_right.ensures.does)
+
+pub binary-returns-in-Or-clause-later : goal.expressions::binary-returns-in-Or-clause-later
+binary-returns-in-Or-clause-later g t c =
+    later_then g.S.WorldStore.meaning c.args.config.now c.value.new.config c.or_right.new.config c.or_right.result c.in-Ok.ensures.later c.or_right.ensures.later
+
+pub binary-returns-in-Or-clause-does : goal.expressions::binary-returns-in-Or-clause-does
+binary-returns-in-Or-clause-does g t c =
+    let m = g.S.WorldStore.meaning in
+    let f = c.args.frame.now in
+    let mid = c.value.new.config in
+    let new = c.or_right.new.config in
+    let v = c.in-Ok.first in
+    let s = c.value.new.stops in
+    let k = c.or_right.new.stops in
+    form_goes_on m gives_in gives_in c.args.config.now mid new f (AtExpr c.args.left.0) (λ t env. then_value (line.binary_left c.args.operator c.args.right.0 env)) v c.or_right.result s.waits s.top k.waits k.top c.in-Ok.ensures.later c.in-Ok.ensures.does
+    (subst (λ (o : BinaryOperator). Evaluates m (line_here m mid f (λ t env. line.binary_left o c.args.right.0 env (value_in t v))) gives_in c.or_right.result k.waits k.top mid new) (sym c.in-Or.is) c.or_right.ensures.does)
+
+pub binary-returns-in_default-clause-later : goal.expressions::binary-returns-in_default-clause-later
+binary-returns-in_default-clause-later g t c =
+    later_then g.S.WorldStore.meaning c.args.config.now c.value.new.config c.both.new.config c.both.result c.in-Ok.ensures.later c.both.ensures.later
+
+pub binary-returns-in_default-clause-does : goal.expressions::binary-returns-in_default-clause-does
+binary-returns-in_default-clause-does g t c =
+    let m = g.S.WorldStore.meaning in
+    let f = c.args.frame.now in
+    let mid = c.value.new.config in
+    let new = c.both.new.config in
+    let v = c.in-Ok.first in
+    let s = c.value.new.stops in
     let k = c.both.new.stops in
-    line_form m gives_in old c.both.new.config f (λ t env. line.binary_left c.args.operator c.args.right.0 env (value_in t c.args.first)) c.both.result k.waits k.top (AtExpr c.args.right.0)
-    (λ t env. then_value (line.binary_right c.args.operator (value_in t c.args.first) env))
-    (λ t more. left_is_held c.args.operator c.args.right.0 (env_in m old t f) (value_in t c.args.first) c.in_default.not-And c.in_default.not-Or) c.both.ensures.does
+    form_goes_on m gives_in gives_in c.args.config.now mid new f (AtExpr c.args.left.0) (λ t env. then_value (line.binary_left c.args.operator c.args.right.0 env)) v c.both.result s.waits s.top k.waits k.top c.in-Ok.ensures.later c.in-Ok.ensures.does
+    (line_form m gives_in mid new f (λ t env. line.binary_left c.args.operator c.args.right.0 env (value_in t v)) c.both.result k.waits k.top (AtExpr c.args.right.0) (λ t env. then_value (line.binary_right c.args.operator (value_in t v) env))
+    (λ t more. left_is_held c.args.operator c.args.right.0 (env_in m mid t f) (value_in t v) c.in_default.not-And c.in_default.not-Or) c.both.ensures.does)
 
 pub and_right-returns-then-to_boolean-clause-does : goal.expressions::and_right-returns-then-to_boolean-clause-does
 and_right-returns-then-to_boolean-clause-does g t c =

@@ -15,8 +15,8 @@ use Rattle.wjs_model.specs.declared.point.StmtPoint.TheVariants as stmt
 use Rattle.wjs_frames.proofs.Parting.{stands_here}
 use Rattle.wjs_effects.proofs.Leaving.{shorten_as}
 use Rattle.wjs_stopping.specs.Waiting.{at_node}
-use Rattle.wjs_direct.proofs.Forming.{form_goes_on, line_ended, node_there}
-use Rattle.wjs_direct.proofs.Parts.{broke_does, broke_found, broke_later}
+use Rattle.wjs_direct_lines.proofs.Forming.{form_goes_on, line_ended, node_there}
+use Rattle.wjs_direct_lines.proofs.Parts.{broke_does, broke_found, broke_later}
 use Rattle.wjs_direct.proofs.Labelling.{label_known, label_then}
 use Rattle.wjs_direct.proofs.+direct.Goals as goal
 

@@ -1,6 +1,6 @@
 -- What holds of the functions of `loops`.
-use Rattle.std.proofs.Common.{◌≡◌, ◌-◌, rules, [], Option, Some, refl, ap, ◌∙◌, subst}
-use Rattle.std.specs.Prelude.{Err}
+use Rattle.std.proofs.Common.{◌≡◌, ◌-◌, rules, [], Option, None, Some, refl, ap, ◌∙◌, subst}
+use Rattle.std.specs.Prelude.{Ok, Err}
 use Rattle.wjs_base.specs.Text.{Table}
 use Rattle.wjs_base.specs.declared.ids.NodeId.{NodeId}
 use Rattle.wjs_base.specs.declared.values.Value.{Value}
@@ -35,12 +35,13 @@ use Rattle.wjs_effects.proofs.StandingFors.{for_stands}
 use Rattle.wjs_stopping.specs.Ends.{gives_in}
 use Rattle.wjs_stopping.specs.Evaluating.{Evaluates, Leaves, outcome_in}
 use Rattle.wjs_stopping.specs.Waiting.{at_node}
-use Rattle.wjs_direct.specs.Deeds.{goal_here, line_here, entry_here, form_here}
+use Rattle.wjs_direct_lines.specs.Deeds.{goal_here, line_here, entry_here, form_here}
 use Rattle.wjs_stopping.proofs.Evaluating.{in_memory, leaves_all}
-use Rattle.wjs_direct.proofs.Forming.{form_goes_on, line_ended, node_there}
-use Rattle.wjs_direct.proofs.Parts.{broke_does, broke_found, broke_later, did, due_does, later_stopped, later_then, line_as, stop_found}
-use Rattle.wjs_direct.proofs.Assigning.{broken_as}
-use Rattle.wjs_direct.proofs.Looping.{comes_behind, entry_broke, entry_left, for_first_then, if_here, if_stands, line_begins, line_same, part_left, round_begun, round_due, round_ended, round_is, round_later, round_next, round_there, test_fails, test_holds}
+use Rattle.wjs_direct_lines.proofs.Forming.{form_goes_on, line_ended, node_there}
+use Rattle.wjs_direct_lines.proofs.Parts.{broke_does, broke_found, broke_later, did, due_does, later_stopped, later_then, line_as, stop_found}
+use Rattle.wjs_direct_lines.proofs.Assigning.{broken_as}
+use Rattle.wjs_direct_lines.proofs.Nesting.{comes_behind, entry_broke, entry_left, if_here, if_stands, line_begins, line_same, part_left}
+use Rattle.wjs_direct.proofs.Looping.{for_first_then, round_begun, round_due, round_ended, round_is, round_later, round_next, round_there, test_fails, test_holds}
 use Rattle.wjs_direct.specs.Rounds.{HasRound, IsLoop, loop_round, round_left}
 use Rattle.wjs_direct.proofs.+direct.Goals as goal
 
@@ -48,8 +49,8 @@ use Rattle.wjs_direct.proofs.+direct.Goals as goal
 
 -- the first expression of a `for`
 
-pub for_expression-for_begun-requires : goal.loops::for_expression-for_begun-requires
-for_expression-for_begun-requires g t c =
+pub for_expression-run_loop-requires : goal.loops::for_expression-run_loop-requires
+for_expression-run_loop-requires g t c =
     let m = g.S.WorldStore.meaning in
     let old = c.args.config.now in
     let f = c.args.frame.now in
@@ -64,19 +65,46 @@ for_expression-for_begun-requires g t c =
     let test : StandsIf mid f c.args.test = stands_if_later m old f mid c.args.test l (if_stands m old f c.args.node c.args.test parts.0) in
     let update : StandsIf mid f c.args.update = stands_if_later m old f mid c.args.update l (if_stands m old f c.args.node c.args.update parts.1.0) in
     let body : StandsHere mid f c.args.body = stands_later m old f mid c.args.body l parts.1.1 in
-    let end : HasCompletion mid c.in-Ok.end = c.in-Ok.ensures.found.0 in
-    search (rules, base, there, node, empty, is, test, update, body, end)
+    search (rules, base, there, node, empty, is, test, update, body)
 
-pub for_expression-returns-in-Ok-clause-later : goal.loops::for_expression-returns-in-Ok-clause-later
-for_expression-returns-in-Ok-clause-later g t c =
-    later_then g.S.WorldStore.meaning c.args.config.now c.effect.new.config c.for_begun.new.config c.for_begun.result c.in-Ok.ensures.later c.for_begun.ensures.later
+pub for_expression-returns-in-Gives-clause-later : goal.loops::for_expression-returns-in-Gives-clause-later
+for_expression-returns-in-Gives-clause-later g t c =
+    later_then g.S.WorldStore.meaning c.args.config.now c.effect.new.config c.run_loop.new.config c.run_loop.result c.in-Ok.ensures.later c.run_loop.ensures.later
 
-pub for_expression-returns-in-Ok-clause-does : goal.loops::for_expression-returns-in-Ok-clause-does
-for_expression-returns-in-Ok-clause-does g t c =
+pub for_expression-returns-in-Gives-clause-does : goal.loops::for_expression-returns-in-Gives-clause-does
+for_expression-returns-in-Gives-clause-does g t c =
+    let m = g.S.WorldStore.meaning in
+    let old = c.args.config.now in
+    let mid = c.effect.new.config in
+    let f = c.args.frame.now in
     let s = c.effect.new.stops in
-    let k = c.for_begun.new.stops in
-    form_goes_on g.S.WorldStore.meaning completion_in completion_in c.args.config.now c.effect.new.config c.for_begun.new.config c.args.frame.now (AtExpr c.args.e.0) (λ t env. then_value (loops.for_started c.args.node.0 (number c.args.test) (number c.args.update) c.args.body.0 env)) c.in-Ok.end
-    c.for_begun.result s.waits s.top k.waits k.top c.in-Ok.ensures.later c.in-Ok.ensures.does c.for_begun.ensures.does
+    let new = c.run_loop.new.config in
+    let k = c.run_loop.new.stops in
+    let started : Env → Content → Act = λ env v. loops.for_started c.args.node.0 (number c.args.test) (number c.args.update) c.args.body.0 env v in
+    form_goes_on m completion_in completion_in old mid new f (AtExpr c.args.e.0) (λ t env. then_value (started env)) c.in-Ok.end
+    c.run_loop.result s.waits s.top k.waits k.top c.in-Ok.ensures.later c.in-Ok.ensures.does
+    (line_as m completion_in mid new f (λ t env. then_value (started env) (completion_in t c.in-Ok.end)) c.run_loop.result k.waits k.top
+    (λ t env. loops.loop_from c.args.node.0 (number c.args.test) (number c.args.update) c.args.body.0 env)
+    (λ t more. ap (λ (e : Completion). then_value (started (env_in m mid t f)) (completion_in t e)) c.in-Gives.is) c.run_loop.ensures.does)
+
+pub for_expression-returns-in_default-clause-later : goal.loops::for_expression-returns-in_default-clause-later
+for_expression-returns-in_default-clause-later g t c = c.in-Ok.ensures.later
+
+pub for_expression-returns-in_default-clause-found : goal.loops::for_expression-returns-in_default-clause-found
+for_expression-returns-in_default-clause-found g t c = c.in-Ok.ensures.found
+
+pub for_expression-returns-in_default-clause-does : goal.loops::for_expression-returns-in_default-clause-does
+for_expression-returns-in_default-clause-does g t c =
+    let m = g.S.WorldStore.meaning in
+    let old = c.args.config.now in
+    let mid = c.effect.new.config in
+    let f = c.args.frame.now in
+    let s = c.effect.new.stops in
+    let started : Env → Content → Act = λ env v. loops.for_started c.args.node.0 (number c.args.test) (number c.args.update) c.args.body.0 env v in
+    form_goes_on m completion_in completion_in old mid mid f (AtExpr c.args.e.0) (λ t env. then_value (started env)) c.in-Ok.end
+    (Ok c.in-Ok.end) s.waits s.top s.waits s.top c.in-Ok.ensures.later c.in-Ok.ensures.does
+    (line_ended m completion_in mid f (λ t env. then_value (started env) (completion_in t c.in-Ok.end)) c.in-Ok.end s.waits s.top
+    (λ t more env. shorten_as _ _ (value_passes (started env) t c.in-Ok.end c.in_default.not-Gives)))
 
 pub for_expression-returns-in-Err-clause-later : goal.loops::for_expression-returns-in-Err-clause-later
 for_expression-returns-in-Err-clause-later g t c =
@@ -104,23 +132,6 @@ for_expression-returns-in-Err-clause-does g t c =
     broke_does m Completion Completion old c.effect.new.config c.waits.new.config f c.args.node [] (points.Stmt stmt.ForFirst) c.in-Err.end s.waits s.top c.waits.result k.waits k.top
     c.waits.ensures.same c.waits.ensures.waits completion_in completion_in (AtExpr c.args.e.0) (λ t env. then_value (loops.for_started c.args.node.0 (number c.args.test) (number c.args.update) c.args.body.0 env))
     (for_first_then m old c.effect.new.config f c.args.node (inits.Expr c.args.e) c.args.test c.args.update c.args.body c.requires.is) (λ t env e. refl) c.in-Err.ensures.later c.in-Err.ensures.does
-
-pub for_begun-returns-in-Gives-clause-does : goal.loops::for_begun-returns-in-Gives-clause-does
-for_begun-returns-in-Gives-clause-does g t c =
-    let m = g.S.WorldStore.meaning in
-    let old = c.args.config.now in
-    let k = c.run_loop.new.stops in
-    let started : Env → Content → Act = λ env v. loops.for_started c.args.node.0 (number c.args.test) (number c.args.update) c.args.body.0 env v in
-    line_as m completion_in old c.run_loop.new.config c.args.frame.now (λ t env. then_value (started env) (completion_in t c.args.end)) c.run_loop.result k.waits k.top
-    (λ t env. loops.loop_from c.args.node.0 (number c.args.test) (number c.args.update) c.args.body.0 env)
-    (λ t more. ap (λ (e : Completion). then_value (started (env_in m old t c.args.frame.now)) (completion_in t e)) c.in-Gives.is) c.run_loop.ensures.does
-
-pub for_begun-returns-in_default-clause-does : goal.loops::for_begun-returns-in_default-clause-does
-for_begun-returns-in_default-clause-does g t c =
-    let m = g.S.WorldStore.meaning in
-    let s = c.args.stops.now in
-    line_ended m completion_in c.args.config.now c.args.frame.now (λ t env. then_value (loops.for_started c.args.node.0 (number c.args.test) (number c.args.update) c.args.body.0 env) (completion_in t c.args.end)) c.args.end s.waits s.top
-    (λ t more env. shorten_as _ _ (value_passes (loops.for_started c.args.node.0 (number c.args.test) (number c.args.update) c.args.body.0 env) t c.args.end c.in_default.not-Gives))
 
 -- from the first iteration on
 
@@ -179,35 +190,13 @@ run_loop-returns-in-Err-clause-does g t c = c.in-Err.ensures.does
 
 -- the first iteration
 
-pub first-first_tested-requires : goal.loops::first-first_tested-requires
-first-first_tested-requires g t c =
+pub first-value-requires : goal.loops::first-value-requires
+first-value-requires g t c =
     let test : StandsHere c.args.config.now c.args.frame.now c.in-Some.e = subst (λ (o : Option NodeId). StandsIf c.args.config.now c.args.frame.now o) c.in-Some.is c.requires.test in
     search (rules, test)
 
-pub first-returns-in-Some-clause-does : goal.loops::first-returns-in-Some-clause-does
-first-returns-in-Some-clause-does g t c =
-    let m = g.S.WorldStore.meaning in
-    let old = c.args.config.now in
-    let f = c.args.frame.now in
-    let k = c.first_tested.new.stops in
-    comes_behind m (line_here m old f (λ t env. loops.loop_from c.args.node.0 (number c.args.test) (number c.args.update) c.args.body.0 env))
-    (form_here m old f (AtExpr c.in-Some.e.0) (λ t env. then_value (loops.loop_test c.args.node.0 (number c.args.update) c.args.body.0 env))) (round_left m c.first_tested.new.config f c.args.node) c.first_tested.result k.waits k.top old old c.first_tested.new.config
-    (line_begins m old f (λ t env. loops.loop_from c.args.node.0 (number c.args.test) (number c.args.update) c.args.body.0 env) (AtExpr c.in-Some.e.0) (λ t env. then_value (loops.loop_test c.args.node.0 (number c.args.update) c.args.body.0 env))
-    (λ t more. ap (λ (o : Option NodeId). loops.loop_from c.args.node.0 (number o) (number c.args.update) c.args.body.0 (env_in m old t f)) c.in-Some.is)) c.first_tested.ensures.does
-
-pub first-returns-in-None-clause-does : goal.loops::first-returns-in-None-clause-does
-first-returns-in-None-clause-does g t c =
-    let m = g.S.WorldStore.meaning in
-    let old = c.args.config.now in
-    let f = c.args.frame.now in
-    let k = c.body_run.new.stops in
-    comes_behind m (line_here m old f (λ t env. loops.loop_from c.args.node.0 (number c.args.test) (number c.args.update) c.args.body.0 env))
-    (form_here m old f (AtStmt c.args.body.0) (λ t env. loops.loop_body c.args.node.0 (number c.args.update) env)) (round_left m c.body_run.new.config f c.args.node) c.body_run.result k.waits k.top old old c.body_run.new.config
-    (line_begins m old f (λ t env. loops.loop_from c.args.node.0 (number c.args.test) (number c.args.update) c.args.body.0 env) (AtStmt c.args.body.0) (λ t env. loops.loop_body c.args.node.0 (number c.args.update) env)
-    (λ t more. ap (λ (o : Option NodeId). loops.loop_from c.args.node.0 (number o) (number c.args.update) c.args.body.0 (env_in m old t f)) c.in-None.is)) c.body_run.ensures.does
-
-pub first_tested-tested-requires : goal.loops::first_tested-tested-requires
-first_tested-tested-requires g t c =
+pub first-tested-requires : goal.loops::first-tested-requires
+first-tested-requires g t c =
     let m = g.S.WorldStore.meaning in
     let old = c.args.config.now in
     let f = c.args.frame.now in
@@ -222,31 +211,35 @@ first_tested-tested-requires g t c =
     let truth : HasValue mid c.in-Ok.truth = c.in-Ok.ensures.found.0 in
     search (rules, base, there, node, empty, update, body, truth)
 
-pub first_tested-returns-in-Ok-clause-later : goal.loops::first_tested-returns-in-Ok-clause-later
-first_tested-returns-in-Ok-clause-later g t c =
+pub first-returns-in-Ok-clause-later : goal.loops::first-returns-in-Ok-clause-later
+first-returns-in-Ok-clause-later g t c =
     later_then g.S.WorldStore.meaning c.args.config.now c.value.new.config c.tested.new.config c.tested.result c.in-Ok.ensures.later c.tested.ensures.later
 
-pub first_tested-returns-in-Ok-clause-does : goal.loops::first_tested-returns-in-Ok-clause-does
-first_tested-returns-in-Ok-clause-does g t c =
+pub first-returns-in-Ok-clause-does : goal.loops::first-returns-in-Ok-clause-does
+first-returns-in-Ok-clause-does g t c =
     let m = g.S.WorldStore.meaning in
     let old = c.args.config.now in
     let mid = c.value.new.config in
+    let new = c.tested.new.config in
     let f = c.args.frame.now in
     let k = c.tested.new.stops in
     let next : Table → Env → Meant → Act = λ t env. then_value (loops.loop_test c.args.node.0 (number c.args.update) c.args.body.0 env) in
-    comes_behind m (form_here m old f (AtExpr c.args.test.0) next) (line_here m mid f (λ t env. next t env (gives_in t c.in-Ok.truth))) (round_left m c.tested.new.config f c.args.node) c.tested.result k.waits k.top old mid c.tested.new.config
-    (part_left m gives_in old mid f (AtExpr c.args.test.0) next c.in-Ok.truth c.in-Ok.ensures.later c.in-Ok.ensures.does) c.tested.ensures.does
+    let act : Table → Env → Act = λ t env. loops.loop_from c.args.node.0 (number c.args.test) (number c.args.update) c.args.body.0 env in
+    comes_behind m (line_here m old f act) (form_here m old f (AtExpr c.in-Some.e.0) next) (round_left m new f c.args.node) c.tested.result k.waits k.top old old new
+    (line_begins m old f act (AtExpr c.in-Some.e.0) next (λ t more. ap (λ (o : Option NodeId). loops.loop_from c.args.node.0 (number o) (number c.args.update) c.args.body.0 (env_in m old t f)) c.in-Some.is))
+    (comes_behind m (form_here m old f (AtExpr c.in-Some.e.0) next) (line_here m mid f (λ t env. next t env (gives_in t c.in-Ok.truth))) (round_left m new f c.args.node) c.tested.result k.waits k.top old mid new
+    (part_left m gives_in old mid f (AtExpr c.in-Some.e.0) next c.in-Ok.truth c.in-Ok.ensures.later c.in-Ok.ensures.does) c.tested.ensures.does)
 
-pub first_tested-returns-in-Err-clause-later : goal.loops::first_tested-returns-in-Err-clause-later
-first_tested-returns-in-Err-clause-later g t c =
+pub first-returns-in-Err-clause-later : goal.loops::first-returns-in-Err-clause-later
+first-returns-in-Err-clause-later g t c =
     let m = g.S.WorldStore.meaning in
     let s = c.value.new.stops in
     let k = c.waits.new.stops in
     broke_later m Value (Option Completion) c.args.config.now c.value.new.config c.waits.new.config c.args.frame.now c.args.node [] (points.Stmt (stmt.ForTest c.args.update c.args.body)) c.in-Err.end s.waits s.top c.waits.result k.waits k.top
     c.waits.ensures.same c.waits.ensures.waits c.in-Err.ensures.later
 
-pub first_tested-returns-in-Err-clause-found : goal.loops::first_tested-returns-in-Err-clause-found
-first_tested-returns-in-Err-clause-found g t c =
+pub first-returns-in-Err-clause-found : goal.loops::first-returns-in-Err-clause-found
+first-returns-in-Err-clause-found g t c =
     let m = g.S.WorldStore.meaning in
     let old = c.args.config.now in
     let f = c.args.frame.now in
@@ -255,13 +248,31 @@ first_tested-returns-in-Err-clause-found g t c =
     broke_found m Value (Option Completion) old c.value.new.config c.waits.new.config f c.args.node [] (points.Stmt (stmt.ForTest c.args.update c.args.body)) c.in-Err.end s.waits s.top c.waits.result k.waits k.top
     c.waits.ensures.same c.waits.ensures.waits c.in-Err.ensures.later c.requires.there c.requires.node tt (if_here m old f c.args.node c.args.update c.requires.update, c.requires.body) c.in-Err.ensures.found
 
-pub first_tested-returns-in-Err-clause-does : goal.loops::first_tested-returns-in-Err-clause-does
-first_tested-returns-in-Err-clause-does g t c =
+pub first-returns-in-Err-clause-does : goal.loops::first-returns-in-Err-clause-does
+first-returns-in-Err-clause-does g t c =
     let m = g.S.WorldStore.meaning in
+    let old = c.args.config.now in
+    let new = c.waits.new.config in
+    let f = c.args.frame.now in
     let s = c.value.new.stops in
     let k = c.waits.new.stops in
-    broke_does m Value Completion c.args.config.now c.value.new.config c.waits.new.config c.args.frame.now c.args.node [] (points.Stmt (stmt.ForTest c.args.update c.args.body)) c.in-Err.end s.waits s.top c.waits.result k.waits k.top
-    c.waits.ensures.same c.waits.ensures.waits gives_in completion_in (AtExpr c.args.test.0) (λ t env. then_value (loops.loop_test c.args.node.0 (number c.args.update) c.args.body.0 env)) (λ l t env. refl) (λ t env e. refl) c.in-Err.ensures.later c.in-Err.ensures.does
+    let next : Table → Env → Meant → Act = λ t env. then_value (loops.loop_test c.args.node.0 (number c.args.update) c.args.body.0 env) in
+    let act : Table → Env → Act = λ t env. loops.loop_from c.args.node.0 (number c.args.test) (number c.args.update) c.args.body.0 env in
+    comes_behind m (line_here m old f act) (form_here m old f (AtExpr c.in-Some.e.0) next) (round_left m new f c.args.node) (Err c.waits.result) k.waits k.top old old new
+    (line_begins m old f act (AtExpr c.in-Some.e.0) next (λ t more. ap (λ (o : Option NodeId). loops.loop_from c.args.node.0 (number o) (number c.args.update) c.args.body.0 (env_in m old t f)) c.in-Some.is))
+    (broke_does m Value Completion old c.value.new.config new f c.args.node [] (points.Stmt (stmt.ForTest c.args.update c.args.body)) c.in-Err.end s.waits s.top c.waits.result k.waits k.top
+    c.waits.ensures.same c.waits.ensures.waits gives_in completion_in (AtExpr c.in-Some.e.0) next (λ l t env. refl) (λ t env e. refl) c.in-Err.ensures.later c.in-Err.ensures.does)
+
+pub first-returns-in-None-clause-does : goal.loops::first-returns-in-None-clause-does
+first-returns-in-None-clause-does g t c =
+    let m = g.S.WorldStore.meaning in
+    let old = c.args.config.now in
+    let f = c.args.frame.now in
+    let k = c.body_run.new.stops in
+    comes_behind m (line_here m old f (λ t env. loops.loop_from c.args.node.0 (number c.args.test) (number c.args.update) c.args.body.0 env))
+    (form_here m old f (AtStmt c.args.body.0) (λ t env. loops.loop_body c.args.node.0 (number c.args.update) env)) (round_left m c.body_run.new.config f c.args.node) c.body_run.result k.waits k.top old old c.body_run.new.config
+    (line_begins m old f (λ t env. loops.loop_from c.args.node.0 (number c.args.test) (number c.args.update) c.args.body.0 env) (AtStmt c.args.body.0) (λ t env. loops.loop_body c.args.node.0 (number c.args.update) env)
+    (λ t more. ap (λ (o : Option NodeId). loops.loop_from c.args.node.0 (number o) (number c.args.update) c.args.body.0 (env_in m old t f)) c.in-None.is)) c.body_run.ensures.does
 
 -- the later ones
 
@@ -395,33 +406,13 @@ iterations-returns-clause-does g t c =
     comes_behind m (goal_at old) (goal_at mid) (round_left m c.stop.new.config f c.args.node) (Err c.stop.result) s.waits s.top old mid c.stop.new.config c.loop-test.invariant.left
     (due_does m {A = Completion} completion_in mid c.stop.new.config f c.stop.result s.waits s.top c.stop.ensures.same (part.Again c.args.node) c.stop.ensures.stops)
 
-pub iteration-next_tested-requires : goal.loops::iteration-next_tested-requires
-iteration-next_tested-requires g t c =
+pub iteration-entered-requires : goal.loops::iteration-entered-requires
+iteration-entered-requires g t c =
     let test : StandsHere c.args.config.now c.args.frame.now c.in-Some.e = subst (λ (o : Option NodeId). StandsIf c.args.config.now c.args.frame.now o) c.in-Some.is c.requires.test in
     search (rules, test)
 
-pub iteration-returns-in-Some-clause-does : goal.loops::iteration-returns-in-Some-clause-does
-iteration-returns-in-Some-clause-does g t c =
-    let m = g.S.WorldStore.meaning in
-    let old = c.args.config.now in
-    let f = c.args.frame.now in
-    let k = c.next_tested.new.stops in
-    let other : Table → Env → Act = λ t env. Sub (expr_at c.in-Some.e.0 env) (then_value (loops.loop_test c.args.node.0 (number c.args.update) c.args.body.0 env)) in
-    comes_behind m (line_here m old f (λ t env. iteration_from c.args.node.0 (number c.args.test) (number c.args.update) c.args.body.0 env)) (line_here m old f other) (round_left m c.next_tested.new.config f c.args.node) c.next_tested.result k.waits k.top old old c.next_tested.new.config
-    (line_same m old f (λ t env. iteration_from c.args.node.0 (number c.args.test) (number c.args.update) c.args.body.0 env) other (λ t more. ap (λ (o : Option NodeId). iteration_from c.args.node.0 (number o) (number c.args.update) c.args.body.0 (env_in m old t f)) c.in-Some.is)) c.next_tested.ensures.does
-
-pub iteration-returns-in-None-clause-does : goal.loops::iteration-returns-in-None-clause-does
-iteration-returns-in-None-clause-does g t c =
-    let m = g.S.WorldStore.meaning in
-    let old = c.args.config.now in
-    let f = c.args.frame.now in
-    let k = c.body_entered.new.stops in
-    let other : Table → Env → Act = λ t env. Sub (stmt_at c.args.body.0 env) (loops.loop_body c.args.node.0 (number c.args.update) env) in
-    comes_behind m (line_here m old f (λ t env. iteration_from c.args.node.0 (number c.args.test) (number c.args.update) c.args.body.0 env)) (line_here m old f other) (round_left m c.body_entered.new.config f c.args.node) c.body_entered.result k.waits k.top old old c.body_entered.new.config
-    (line_same m old f (λ t env. iteration_from c.args.node.0 (number c.args.test) (number c.args.update) c.args.body.0 env) other (λ t more. ap (λ (o : Option NodeId). iteration_from c.args.node.0 (number o) (number c.args.update) c.args.body.0 (env_in m old t f)) c.in-None.is)) c.body_entered.ensures.does
-
-pub next_tested-tested-requires : goal.loops::next_tested-tested-requires
-next_tested-tested-requires g t c =
+pub iteration-tested-requires : goal.loops::iteration-tested-requires
+iteration-tested-requires g t c =
     let m = g.S.WorldStore.meaning in
     let old = c.args.config.now in
     let f = c.args.frame.now in
@@ -436,31 +427,36 @@ next_tested-tested-requires g t c =
     let truth : HasValue mid c.in-Ok.truth = c.in-Ok.ensures.found.0 in
     search (rules, base, there, node, empty, update, body, truth)
 
-pub next_tested-returns-in-Ok-clause-later : goal.loops::next_tested-returns-in-Ok-clause-later
-next_tested-returns-in-Ok-clause-later g t c =
+pub iteration-returns-in-Ok-clause-later : goal.loops::iteration-returns-in-Ok-clause-later
+iteration-returns-in-Ok-clause-later g t c =
     later_then g.S.WorldStore.meaning c.args.config.now c.entered.new.config c.tested.new.config c.tested.result c.in-Ok.ensures.later c.tested.ensures.later
 
-pub next_tested-returns-in-Ok-clause-does : goal.loops::next_tested-returns-in-Ok-clause-does
-next_tested-returns-in-Ok-clause-does g t c =
+pub iteration-returns-in-Ok-clause-does : goal.loops::iteration-returns-in-Ok-clause-does
+iteration-returns-in-Ok-clause-does g t c =
     let m = g.S.WorldStore.meaning in
     let old = c.args.config.now in
     let mid = c.entered.new.config in
+    let new = c.tested.new.config in
     let f = c.args.frame.now in
     let k = c.tested.new.stops in
     let next : Table → Env → Meant → Act = λ t env. then_value (loops.loop_test c.args.node.0 (number c.args.update) c.args.body.0 env) in
-    comes_behind m (line_here m old f (λ t env. Sub (entry (AtExpr c.args.test.0) env) (next t env))) (line_here m mid f (λ t env. next t env (gives_in t c.in-Ok.truth))) (round_left m c.tested.new.config f c.args.node) c.tested.result k.waits k.top old mid c.tested.new.config
-    (entry_left m gives_in old mid f (AtExpr c.args.test.0) next c.in-Ok.truth c.in-Ok.ensures.later c.in-Ok.ensures.does) c.tested.ensures.does
+    let act : Table → Env → Act = λ t env. iteration_from c.args.node.0 (number c.args.test) (number c.args.update) c.args.body.0 env in
+    let other : Table → Env → Act = λ t env. Sub (expr_at c.in-Some.e.0 env) (next t env) in
+    comes_behind m (line_here m old f act) (line_here m old f other) (round_left m new f c.args.node) c.tested.result k.waits k.top old old new
+    (line_same m old f act other (λ t more. ap (λ (o : Option NodeId). iteration_from c.args.node.0 (number o) (number c.args.update) c.args.body.0 (env_in m old t f)) c.in-Some.is))
+    (comes_behind m (line_here m old f other) (line_here m mid f (λ t env. next t env (gives_in t c.in-Ok.truth))) (round_left m new f c.args.node) c.tested.result k.waits k.top old mid new
+    (entry_left m gives_in old mid f (AtExpr c.in-Some.e.0) next c.in-Ok.truth c.in-Ok.ensures.later c.in-Ok.ensures.does) c.tested.ensures.does)
 
-pub next_tested-returns-in-Err-clause-later : goal.loops::next_tested-returns-in-Err-clause-later
-next_tested-returns-in-Err-clause-later g t c =
+pub iteration-returns-in-Err-clause-later : goal.loops::iteration-returns-in-Err-clause-later
+iteration-returns-in-Err-clause-later g t c =
     let m = g.S.WorldStore.meaning in
     let s = c.entered.new.stops in
     let k = c.waits.new.stops in
     broke_later m Value (Option Completion) c.args.config.now c.entered.new.config c.waits.new.config c.args.frame.now c.args.node [] (points.Stmt (stmt.ForTest c.args.update c.args.body)) c.in-Err.end s.waits s.top c.waits.result k.waits k.top
     c.waits.ensures.same c.waits.ensures.waits c.in-Err.ensures.later
 
-pub next_tested-returns-in-Err-clause-found : goal.loops::next_tested-returns-in-Err-clause-found
-next_tested-returns-in-Err-clause-found g t c =
+pub iteration-returns-in-Err-clause-found : goal.loops::iteration-returns-in-Err-clause-found
+iteration-returns-in-Err-clause-found g t c =
     let m = g.S.WorldStore.meaning in
     let old = c.args.config.now in
     let f = c.args.frame.now in
@@ -469,13 +465,31 @@ next_tested-returns-in-Err-clause-found g t c =
     broke_found m Value (Option Completion) old c.entered.new.config c.waits.new.config f c.args.node [] (points.Stmt (stmt.ForTest c.args.update c.args.body)) c.in-Err.end s.waits s.top c.waits.result k.waits k.top
     c.waits.ensures.same c.waits.ensures.waits c.in-Err.ensures.later c.requires.there c.requires.node tt (if_here m old f c.args.node c.args.update c.requires.update, c.requires.body) c.in-Err.ensures.found
 
-pub next_tested-returns-in-Err-clause-does : goal.loops::next_tested-returns-in-Err-clause-does
-next_tested-returns-in-Err-clause-does g t c =
+pub iteration-returns-in-Err-clause-does : goal.loops::iteration-returns-in-Err-clause-does
+iteration-returns-in-Err-clause-does g t c =
     let m = g.S.WorldStore.meaning in
+    let old = c.args.config.now in
+    let new = c.waits.new.config in
+    let f = c.args.frame.now in
     let s = c.entered.new.stops in
     let k = c.waits.new.stops in
-    entry_broke m {A = Value} {B = Completion} gives_in completion_in c.args.config.now c.entered.new.config c.waits.new.config c.args.frame.now (AtExpr c.args.test.0) (λ t env. then_value (loops.loop_test c.args.node.0 (number c.args.update) c.args.body.0 env)) c.args.node [] (points.Stmt (stmt.ForTest c.args.update c.args.body))
-    c.in-Err.end s.waits s.top c.waits.result k.waits k.top c.waits.ensures.same c.waits.ensures.waits (λ l t env. refl) (λ t env e. refl) c.in-Err.ensures.later c.in-Err.ensures.does
+    let next : Table → Env → Meant → Act = λ t env. then_value (loops.loop_test c.args.node.0 (number c.args.update) c.args.body.0 env) in
+    let act : Table → Env → Act = λ t env. iteration_from c.args.node.0 (number c.args.test) (number c.args.update) c.args.body.0 env in
+    let other : Table → Env → Act = λ t env. Sub (expr_at c.in-Some.e.0 env) (next t env) in
+    comes_behind m (line_here m old f act) (line_here m old f other) (round_left m new f c.args.node) (Err c.waits.result) k.waits k.top old old new
+    (line_same m old f act other (λ t more. ap (λ (o : Option NodeId). iteration_from c.args.node.0 (number o) (number c.args.update) c.args.body.0 (env_in m old t f)) c.in-Some.is))
+    (entry_broke m {A = Value} {B = Completion} gives_in completion_in old c.entered.new.config new f (AtExpr c.in-Some.e.0) next c.args.node [] (points.Stmt (stmt.ForTest c.args.update c.args.body))
+    c.in-Err.end s.waits s.top c.waits.result k.waits k.top c.waits.ensures.same c.waits.ensures.waits (λ l t env. refl) (λ t env e. refl) c.in-Err.ensures.later c.in-Err.ensures.does)
+
+pub iteration-returns-in-None-clause-does : goal.loops::iteration-returns-in-None-clause-does
+iteration-returns-in-None-clause-does g t c =
+    let m = g.S.WorldStore.meaning in
+    let old = c.args.config.now in
+    let f = c.args.frame.now in
+    let k = c.body_entered.new.stops in
+    let other : Table → Env → Act = λ t env. Sub (stmt_at c.args.body.0 env) (loops.loop_body c.args.node.0 (number c.args.update) env) in
+    comes_behind m (line_here m old f (λ t env. iteration_from c.args.node.0 (number c.args.test) (number c.args.update) c.args.body.0 env)) (line_here m old f other) (round_left m c.body_entered.new.config f c.args.node) c.body_entered.result k.waits k.top old old c.body_entered.new.config
+    (line_same m old f (λ t env. iteration_from c.args.node.0 (number c.args.test) (number c.args.update) c.args.body.0 env) other (λ t more. ap (λ (o : Option NodeId). iteration_from c.args.node.0 (number o) (number c.args.update) c.args.body.0 (env_in m old t f)) c.in-None.is)) c.body_entered.ensures.does
 
 -- what is entered already
 
@@ -645,16 +659,39 @@ body_run-returns-in-Err-clause-does g t c =
 
 -- after the body
 
-pub body_ended-returns-in-Again-clause-does : goal.loops::body_ended-returns-in-Again-clause-does
-body_ended-returns-in-Again-clause-does g t c =
+pub body_ended-update_run-requires : goal.loops::body_ended-update_run-requires
+body_ended-update_run-requires g t c =
+    let update : StandsHere c.args.config.now c.args.frame.now c.in-Some.e = subst (λ (o : Option NodeId). StandsIf c.args.config.now c.args.frame.now o) c.in-Some.is c.requires.update in
+    search (rules, update)
+
+pub body_ended-returns-in-Some-clause-does : goal.loops::body_ended-returns-in-Some-clause-does
+body_ended-returns-in-Some-clause-does g t c =
+    let m = g.S.WorldStore.meaning in
+    let old = c.args.config.now in
+    let new = c.update_run.new.config in
+    let f = c.args.frame.now in
+    let k = c.update_run.new.stops in
+    let act : Table → Env → Act = λ t env. loops.loop_body c.args.node.0 (number c.args.update) env (completion_in t c.args.end) in
+    let other : Table → Env → Act = λ t env. loops.loop_update c.args.node.0 (number c.args.update) env in
+    let next : Table → Env → Meant → Act = λ t env. then_value (loops.loop_updated c.args.node.0 env) in
+    comes_behind m (line_here m old f act) (line_here m old f other) (round_left m new f c.args.node) c.update_run.result k.waits k.top old old new
+    (line_same m old f act other (λ t more. c.in-Again.ensures.means t more (other t (env_in m old t f))))
+    (comes_behind m (line_here m old f other) (form_here m old f (AtExpr c.in-Some.e.0) next) (round_left m new f c.args.node) c.update_run.result k.waits k.top old old new
+    (line_begins m old f other (AtExpr c.in-Some.e.0) next (λ t more. ap (λ (o : Option NodeId). loops.loop_update c.args.node.0 (number o) (env_in m old t f)) c.in-Some.is)) c.update_run.ensures.does)
+
+pub body_ended-returns-in-None-clause-later : goal.loops::body_ended-returns-in-None-clause-later
+body_ended-returns-in-None-clause-later g t c = later_same g.S.WorldStore.meaning c.args.config.now c.requires.base
+
+pub body_ended-returns-in-None-clause-does : goal.loops::body_ended-returns-in-None-clause-does
+body_ended-returns-in-None-clause-does g t c =
     let m = g.S.WorldStore.meaning in
     let old = c.args.config.now in
     let f = c.args.frame.now in
-    let k = c.updated.new.stops in
     let act : Table → Env → Act = λ t env. loops.loop_body c.args.node.0 (number c.args.update) env (completion_in t c.args.end) in
     let other : Table → Env → Act = λ t env. loops.loop_update c.args.node.0 (number c.args.update) env in
-    comes_behind m (line_here m old f act) (line_here m old f other) (round_left m c.updated.new.config f c.args.node) c.updated.result k.waits k.top old old c.updated.new.config
-    (line_same m old f act other (λ t more. c.in-Again.ensures.means t more (other t (env_in m old t f)))) c.updated.ensures.does
+    leaves_all m (line_here m old f act) (line_here m old f other) (round_left m old f c.args.node None) old old old
+    (line_same m old f act other (λ t more. c.in-Again.ensures.means t more (other t (env_in m old t f))))
+    (round_due m old f c.args.node other (λ t more. ap (λ (o : Option NodeId). loops.loop_update c.args.node.0 (number o) (env_in m old t f)) c.in-None.is))
 
 pub body_ended-returns-in-Ends-clause-found : goal.loops::body_ended-returns-in-Ends-clause-found
 body_ended-returns-in-Ends-clause-found g t c = (c.in-Ends.ensures.there, c.requires.empty)
@@ -668,33 +705,6 @@ body_ended-returns-in-Ends-clause-does g t c =
     round_ended m old f c.args.node act c.in-Ends.ended (λ t more. c.in-Ends.ensures.means t more (loops.loop_update c.args.node.0 (number c.args.update) (env_in m old t f)))
 
 -- the update
-
-pub updated-update_run-requires : goal.loops::updated-update_run-requires
-updated-update_run-requires g t c =
-    let update : StandsHere c.args.config.now c.args.frame.now c.in-Some.e = subst (λ (o : Option NodeId). StandsIf c.args.config.now c.args.frame.now o) c.in-Some.is c.requires.update in
-    search (rules, update)
-
-pub updated-returns-in-Some-clause-does : goal.loops::updated-returns-in-Some-clause-does
-updated-returns-in-Some-clause-does g t c =
-    let m = g.S.WorldStore.meaning in
-    let old = c.args.config.now in
-    let f = c.args.frame.now in
-    let k = c.update_run.new.stops in
-    comes_behind m (line_here m old f (λ t env. loops.loop_update c.args.node.0 (number c.args.update) env))
-    (form_here m old f (AtExpr c.in-Some.e.0) (λ t env. then_value (loops.loop_updated c.args.node.0 env))) (round_left m c.update_run.new.config f c.args.node) c.update_run.result k.waits k.top old old c.update_run.new.config
-    (line_begins m old f (λ t env. loops.loop_update c.args.node.0 (number c.args.update) env) (AtExpr c.in-Some.e.0) (λ t env. then_value (loops.loop_updated c.args.node.0 env))
-    (λ t more. ap (λ (o : Option NodeId). loops.loop_update c.args.node.0 (number o) (env_in m old t f)) c.in-Some.is)) c.update_run.ensures.does
-
-pub updated-returns-in-None-clause-later : goal.loops::updated-returns-in-None-clause-later
-updated-returns-in-None-clause-later g t c = later_same g.S.WorldStore.meaning c.args.config.now c.requires.base
-
-pub updated-returns-in-None-clause-does : goal.loops::updated-returns-in-None-clause-does
-updated-returns-in-None-clause-does g t c =
-    let m = g.S.WorldStore.meaning in
-    let old = c.args.config.now in
-    let f = c.args.frame.now in
-    round_due m old f c.args.node (λ t env. loops.loop_update c.args.node.0 (number c.args.update) env)
-    (λ t more. ap (λ (o : Option NodeId). loops.loop_update c.args.node.0 (number o) (env_in m old t f)) c.in-None.is)
 
 pub update_run-returns-in-Ok-clause-found : goal.loops::update_run-returns-in-Ok-clause-found
 update_run-returns-in-Ok-clause-found g t c =

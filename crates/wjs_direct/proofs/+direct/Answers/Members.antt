@@ -11,12 +11,12 @@ use Rattle.wjs_model.specs.declared.frame.Held.TheVariants as holds
 use Rattle.wjs_model.specs.declared.point.Point.TheVariants as points
 use Rattle.wjs_model.specs.declared.point.ExprPoint.TheVariants as expr
 use Rattle.wjs_frames.proofs.Parting.{stands_here, stands_later}
-use Rattle.wjs_direct.proofs.Membering.{dot_later, dot_waits}
+use Rattle.wjs_direct_lines.proofs.Membering.{dot_later, dot_waits}
 use Rattle.wjs_model.specs.declared.point.Purpose.TheVariants as purposes
 use Rattle.wjs_stopping.specs.Ends.{gives_in}
 use Rattle.wjs_stopping.specs.Waiting.{at_node}
-use Rattle.wjs_direct.proofs.Forming.{form_goes_on, node_there}
-use Rattle.wjs_direct.proofs.Parts.{broke_does, broke_found, broke_later, later_then, line_form}
+use Rattle.wjs_direct_lines.proofs.Forming.{form_goes_on, node_there}
+use Rattle.wjs_direct_lines.proofs.Parts.{broke_does, broke_found, broke_later, later_then, line_form}
 use Rattle.wjs_direct.proofs.+direct.Goals as goal
 
 pub dot-value-requires : goal.members::dot-value-requires

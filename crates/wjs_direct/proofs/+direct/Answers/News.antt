@@ -1,6 +1,6 @@
 -- What holds of the functions of `news`.
 use Rattle.std.proofs.Common.{◌≡◌, rules, [], ◌∷◌, Some, refl, ap, subst, sym, Vec, Global, ℕ, List, ◌++◌}
-use Rattle.std.specs.Prelude.{All, Err, map}
+use Rattle.std.specs.Prelude.{All, Ok, Err, map}
 use Rattle.std.proofs.lemmas.List.Elements.{All-nil, All-push, All-same}
 use Rattle.wjs_base.specs.declared.values.Value.{Value}
 use Rattle.wjs_base.specs.declared.values.Value.TheVariants as values
@@ -23,20 +23,20 @@ use Rattle.wjs_heap_steps.proofs.Later.{later_same, later_twice}
 use Rattle.wjs_stopping.specs.Ends.{gives_in}
 use Rattle.wjs_stopping.specs.Evaluating.{Evaluates, Leaves}
 use Rattle.wjs_stopping.specs.Waiting.{WaitsAt, at_node}
-use Rattle.wjs_direct.specs.Deeds.{IsScript, line_here, call_held}
-use Rattle.wjs_direct.proofs.Forming.{form_goes_on}
-use Rattle.wjs_direct.proofs.Parts.{broke_does, broke_found, broke_later, later_stopped, later_then, stop_found, given_does}
-use Rattle.wjs_direct.proofs.Calling.{argument_stands, values_later}
-use Rattle.wjs_direct.proofs.Holdings.{call_there}
+use Rattle.wjs_direct_lines.specs.Deeds.{IsScript, line_here, call_held}
+use Rattle.wjs_direct_lines.proofs.Forming.{form_goes_on}
+use Rattle.wjs_direct_lines.proofs.Parts.{broke_does, broke_found, broke_later, later_stopped, later_then, stop_found, given_does}
+use Rattle.wjs_direct_lines.proofs.Calling.{argument_stands, values_later}
+use Rattle.wjs_direct_lines.proofs.Holdings.{call_there}
 use Rattle.wjs_arena.specs.declared.class.Class.TheVariants as class
 use Rattle.wjs_by_content.specs.Objects.{object_of}
 use Rattle.wjs_meaning.specs.Constructions.{construct}
 use Rattle.wjs_heap_steps.proofs.Making.{near_bare}
-use Rattle.wjs_direct.proofs.Constructing.{call_broke, call_given, given_broke, given_value, givens_done, new_callee_waits, new_made, news_first, news_left, prototype_found, script_later}
+use Rattle.wjs_direct_lines.proofs.Constructing.{call_broke, call_given, given_broke, given_value, givens_done, new_callee_waits, new_made, news_first, news_left, prototype_found, script_later}
 use Rattle.wjs_direct.proofs.+direct.Goals as goal
 
-pub new_object-new_callee-requires : goal.news::new_object-new_callee-requires
-new_object-new_callee-requires g t c =
+pub new_object-new_function-requires : goal.news::new_object-new_function-requires
+new_object-new_function-requires g t c =
     let m = g.S.WorldStore.meaning in
     let old = c.args.config.now in
     let f = c.args.frame.now in
@@ -46,26 +46,59 @@ new_object-new_callee-requires g t c =
     let there : IsThere m mid f = l.frames f c.requires.there in
     let node : StandsHere mid f c.args.node = stands_later m old f mid c.args.node l c.requires.node in
     let empty : c.value.new.stops.waits ≡ [] = c.in-Ok.ensures.found.1 in
-    let callee : HasValue mid c.in-Ok.made = c.in-Ok.ensures.found.0 in
-    search (rules, base, there, node, empty, callee)
+    let function : HasObject mid c.in-Object.function = subst (HasValue mid) c.in-Object.is c.in-Ok.ensures.found.0 in
+    search (rules, base, there, node, empty, function)
 
-pub new_object-returns-in-Ok-clause-later : goal.news::new_object-returns-in-Ok-clause-later
-new_object-returns-in-Ok-clause-later g t c =
-    later_then g.S.WorldStore.meaning c.args.config.now c.value.new.config c.new_callee.new.config c.new_callee.result c.in-Ok.ensures.later c.new_callee.ensures.later
+pub new_object-returns-in-Object-clause-later : goal.news::new_object-returns-in-Object-clause-later
+new_object-returns-in-Object-clause-later g t c =
+    later_then g.S.WorldStore.meaning c.args.config.now c.value.new.config c.new_function.new.config c.new_function.result c.in-Ok.ensures.later c.new_function.ensures.later
 
-pub new_object-returns-in-Ok-clause-does : goal.news::new_object-returns-in-Ok-clause-does
-new_object-returns-in-Ok-clause-does g t c =
+pub new_object-returns-in-Object-clause-does : goal.news::new_object-returns-in-Object-clause-does
+new_object-returns-in-Object-clause-does g t c =
     let m = g.S.WorldStore.meaning in
     let old = c.args.config.now in
     let mid = c.value.new.config in
     let f = c.args.frame.now in
     let v = c.in-Ok.made in
     let s = c.value.new.stops in
-    let k = c.new_callee.new.stops in
-    form_goes_on m gives_in gives_in old mid c.new_callee.new.config f (AtExpr c.args.callee.0) (λ t env. then_value (line.new_callee (arguments_of (node_in t (node_among old.units.items f.tree c.args.node))) env)) v
-    c.new_callee.result s.waits s.top k.waits k.top c.in-Ok.ensures.later c.in-Ok.ensures.does
-    (subst (λ (us : Vec Program Global). Evaluates m (line_here m mid f (λ t env. line.new_callee (arguments_of (node_in t (node_among us.items f.tree c.args.node))) env (value_in t v))) gives_in c.new_callee.result k.waits k.top mid c.new_callee.new.config)
-    c.in-Ok.ensures.later.units c.new_callee.ensures.does)
+    let k = c.new_function.new in
+    let D : Vec Program Global → Value → Type 0 = λ us w. Evaluates m (line_here m mid f (λ t env. line.new_callee (arguments_of (node_in t (node_among us.items f.tree c.args.node))) env (value_in t w))) gives_in c.new_function.result k.stops.waits k.stops.top mid k.config in
+    form_goes_on m gives_in gives_in old mid k.config f (AtExpr c.args.callee.0) (λ t env. then_value (line.new_callee (arguments_of (node_in t (node_among old.units.items f.tree c.args.node))) env)) v
+    c.new_function.result s.waits s.top k.stops.waits k.stops.top c.in-Ok.ensures.later c.in-Ok.ensures.does
+    (subst (λ (us : Vec Program Global). D us v) c.in-Ok.ensures.later.units (subst (D mid.units) (sym c.in-Object.is) c.new_function.ensures.does))
+
+-- the callee is left to a frame
+
+pub new_object-returns-in_default-clause-later : goal.news::new_object-returns-in_default-clause-later
+new_object-returns-in_default-clause-later g t c =
+    let m = g.S.WorldStore.meaning in
+    let l = c.in-Ok.ensures.later in
+    later_then m {A = Value} c.args.config.now c.value.new.config c.stop.new.config (Err c.stop.result) l (later_stopped m {A = Value} c.value.new.config c.stop.new.config (Err c.stop.result) l.base c.stop.ensures.same)
+
+pub new_object-returns-in_default-clause-found : goal.news::new_object-returns-in_default-clause-found
+new_object-returns-in_default-clause-found g t c =
+    let m = g.S.WorldStore.meaning in
+    let f = c.args.frame.now in
+    let mid = c.value.new.config in
+    let l = c.in-Ok.ensures.later in
+    let s = c.stop.new.stops in
+    stop_found m mid c.stop.new.config f c.args.node [] (phases.Given (points.Expr expr.NewCallee) (completions.Gives c.in-Ok.made)) c.stop.result s.waits s.top c.stop.ensures.same
+    (l.frames f c.requires.there) (stands_later m c.args.config.now f mid c.args.node l c.requires.node) tt (tt, c.in-Ok.ensures.found.0) c.stop.ensures.stops
+
+pub new_object-returns-in_default-clause-does : goal.news::new_object-returns-in_default-clause-does
+new_object-returns-in_default-clause-does g t c =
+    let m = g.S.WorldStore.meaning in
+    let old = c.args.config.now in
+    let mid = c.value.new.config in
+    let new = c.stop.new.config in
+    let f = c.args.frame.now in
+    let v = c.in-Ok.made in
+    let s = c.value.new.stops in
+    let k = c.stop.new.stops in
+    form_goes_on m gives_in gives_in old mid new f (AtExpr c.args.callee.0) (λ t env. then_value (line.new_callee (arguments_of (node_in t (node_among old.units.items f.tree c.args.node))) env)) v
+    (Err c.stop.result) s.waits s.top k.waits k.top c.in-Ok.ensures.later c.in-Ok.ensures.does
+    (subst (λ (us : Vec Program Global). Evaluates m (line_here m mid f (λ t env. line.new_callee (arguments_of (node_in t (node_among us.items f.tree c.args.node))) env (value_in t v))) gives_in (Err c.stop.result) k.waits k.top mid new)
+    c.in-Ok.ensures.later.units (given_does m gives_in mid new f c.stop.result k.waits k.top c.stop.ensures.same c.args.node [] (points.Expr expr.NewCallee) (completions.Gives v) c.stop.ensures.stops))
 
 pub new_object-returns-in-Err-clause-later : goal.news::new_object-returns-in-Err-clause-later
 new_object-returns-in-Err-clause-later g t c =
@@ -91,22 +124,6 @@ new_object-returns-in-Err-clause-does g t c =
     broke_does m Value Value old c.value.new.config c.waits.new.config f c.args.node [] (points.Expr expr.NewCallee) c.in-Err.end s.waits s.top c.waits.result k.waits k.top
     c.waits.ensures.same c.waits.ensures.waits gives_in gives_in (AtExpr c.args.callee.0) (λ t env. then_value (line.new_callee (arguments_of (node_in t (node_among old.units.items f.tree c.args.node))) env))
     (new_callee_waits m old c.value.new.config f c.args.node) (λ t env e. refl) c.in-Err.ensures.later c.in-Err.ensures.does
-
--- the callee is left to a frame
-
-pub new_callee-returns-in_default-clause-later : goal.news::new_callee-returns-in_default-clause-later
-new_callee-returns-in_default-clause-later g t c = later_stopped g.S.WorldStore.meaning {A = Value} c.args.config.now c.stop.new.config (Err c.stop.result) c.requires.base c.stop.ensures.same
-
-pub new_callee-returns-in_default-clause-found : goal.news::new_callee-returns-in_default-clause-found
-new_callee-returns-in_default-clause-found g t c =
-    let s = c.stop.new.stops in
-    stop_found g.S.WorldStore.meaning c.args.config.now c.stop.new.config c.args.frame.now c.args.node [] (phases.Given (points.Expr expr.NewCallee) (completions.Gives c.args.callee)) c.stop.result s.waits s.top c.stop.ensures.same
-    c.requires.there c.requires.node tt (tt, c.requires.callee) c.stop.ensures.stops
-
-pub new_callee-returns-in_default-clause-does : goal.news::new_callee-returns-in_default-clause-does
-new_callee-returns-in_default-clause-does g t c =
-    let s = c.stop.new.stops in
-    given_does g.S.WorldStore.meaning gives_in c.args.config.now c.stop.new.config c.args.frame.now c.stop.result s.waits s.top c.stop.ensures.same c.args.node [] (points.Expr expr.NewCallee) (completions.Gives c.args.callee) c.stop.ensures.stops
 
 pub new_function-returns-in_default-clause-later : goal.news::new_function-returns-in_default-clause-later
 new_function-returns-in_default-clause-later g t c = later_stopped g.S.WorldStore.meaning {A = Value} c.args.config.now c.stop.new.config (Err c.stop.result) c.requires.base c.stop.ensures.same
@@ -238,105 +255,104 @@ new_arguments-returns-clause-does g t c =
 
 -- the new object
 
-pub constructed-made_on-requires : goal.news::constructed-made_on-requires
-constructed-made_on-requires g t c =
+pub constructed-create-requires : goal.news::constructed-create-requires
+constructed-create-requires g t c =
     let m = g.S.WorldStore.meaning in
-    let old = c.args.config.now in
-    let f = c.args.frame.now in
     let mid = c.prototype_of.new.config in
-    let l = c.in_ok-prototype.ensures.later in
-    let base : Base m mid = l.base in
-    let there : IsThere m mid f = l.frames f c.requires.there in
-    let node : StandsHere mid f c.args.node = stands_later m old f mid c.args.node l c.requires.node in
-    let empty : c.args.stops.now.waits ≡ [] = c.requires.empty in
-    let function : HasObject mid c.args.function = l.objects c.args.function c.requires.function in
+    let base : Base m mid = c.in_ok-prototype.ensures.later.base in
     let prototype : HasObject mid c.in_ok-prototype.prototype = c.in_ok-prototype.ensures.found in
-    let values : All (HasValue mid) c.args.values.now = values_later m old mid c.args.values.now l c.requires.values in
-    let code : IsScript mid c.args.function c.args.tree c.args.body = script_later m old mid c.args.function c.args.tree c.args.body l c.requires.function c.requires.code in
-    search (rules, base, there, node, empty, function, prototype, values, code)
-
-pub constructed-returns-clause-later : goal.news::constructed-returns-clause-later
-constructed-returns-clause-later g t c = later_then g.S.WorldStore.meaning c.args.config.now c.prototype_of.new.config c.made_on.new.config c.made_on.result c.in_ok-prototype.ensures.later c.made_on.ensures.later
-
-pub constructed-returns-clause-does : goal.news::constructed-returns-clause-does
-constructed-returns-clause-does g t c =
-    let k = c.made_on.new in
-    prototype_found g.S.WorldStore.meaning c.args.config.now c.prototype_of.new.config k.config c.args.frame.now c.args.function c.args.tree c.args.body c.in_ok-prototype.prototype c.args.values.now c.made_on.result k.stops.waits k.stops.top
-    c.requires.function c.requires.code c.in_ok-prototype.ensures.does c.in_ok-prototype.ensures.later c.made_on.ensures.does
-
-pub made_on-create-requires : goal.news::made_on-create-requires
-made_on-create-requires g t c =
-    let near = near_bare c.args.config.now.apart.items c.object_of.result class.Plain (Some c.args.prototype) c.object_of.ensures c.requires.prototype.1 in
-    search (rules, near)
-
-pub made_on-called_on-requires : goal.news::made_on-called_on-requires
-made_on-called_on-requires g t c =
-    let m = g.S.WorldStore.meaning in
-    let old = c.args.config.now in
-    let f = c.args.frame.now in
-    let mid = c.create.new.config in
-    let l = c.in_ok-object.ensures.later in
-    let base : Base m mid = l.base in
-    let there : IsThere m mid f = l.frames f c.requires.there in
-    let node : StandsHere mid f c.args.node = stands_later m old f mid c.args.node l c.requires.node in
-    let empty : c.args.stops.now.waits ≡ [] = c.requires.empty in
-    let function : HasObject mid c.args.function = l.objects c.args.function c.requires.function in
-    let object : HasObject mid c.in_ok-object.object = c.in_ok-object.ensures.found in
-    let values : All (HasValue mid) c.args.values.now = values_later m old mid c.args.values.now l c.requires.values in
-    let code : IsScript mid c.args.function c.args.tree c.args.body = script_later m old mid c.args.function c.args.tree c.args.body l c.requires.function c.requires.code in
-    search (rules, base, there, node, empty, function, object, values, code)
-
-pub made_on-returns-clause-later : goal.news::made_on-returns-clause-later
-made_on-returns-clause-later g t c = later_then g.S.WorldStore.meaning c.args.config.now c.create.new.config c.called_on.new.config c.called_on.result c.in_ok-object.ensures.later c.called_on.ensures.later
-
-pub made_on-returns-clause-does : goal.news::made_on-returns-clause-does
-made_on-returns-clause-does g t c =
-    let k = c.called_on.new in
-    new_made g.S.WorldStore.meaning c.args.config.now c.create.new.config k.config c.args.frame.now c.args.function c.args.prototype c.in_ok-object.object c.args.values.now c.called_on.result k.stops.waits k.stops.top
-    (c.in_ok-object.ensures.makes (λ u. object_of class.Plain (Some c.args.prototype)) (λ u more. ap (object_in u) c.object_of.ensures)) c.in_ok-object.ensures.later c.called_on.ensures.does
+    let near = near_bare mid.apart.items c.object_of.result class.Plain (Some c.in_ok-prototype.prototype) c.object_of.ensures prototype.1 in
+    search (rules, base, prototype, near)
 
 -- the call on it
 
-pub called_on-returns-in-Ok-clause-found : goal.news::called_on-returns-in-Ok-clause-found
-called_on-returns-in-Ok-clause-found g t c = (c.result_of_new.ensures.found, c.in-Ok.ensures.found.1)
-
-pub called_on-returns-in-Ok-clause-does : goal.news::called_on-returns-in-Ok-clause-does
-called_on-returns-in-Ok-clause-does g t c =
-    let s = c.body_entered.new.stops in
-    call_given g.S.WorldStore.meaning c.args.config.now c.body_entered.new.config c.args.frame.now c.args.function c.args.object c.args.values.now c.args.tree c.args.body c.requires.function c.requires.code
-    c.in-Ok.given c.result_of_new.result s.waits s.top s.waits s.top c.in-Ok.ensures.later c.in-Ok.ensures.does c.result_of_new.ensures.is
-
-pub called_on-returns-in-Err-clause-later : goal.news::called_on-returns-in-Err-clause-later
-called_on-returns-in-Err-clause-later g t c =
-    let s = c.body_entered.new.stops in
-    let k = c.waits_holding.new in
-    broke_later g.S.WorldStore.meaning Value Value c.args.config.now c.body_entered.new.config k.config c.args.frame.now c.args.node (holds.Value (values.Object c.args.object) ∷ []) (points.Expr expr.NewCall) c.in-Err.end s.waits s.top c.waits_holding.result k.stops.waits k.stops.top
-    c.waits_holding.ensures.same c.waits_holding.ensures.waits c.in-Err.ensures.later
-
-pub called_on-returns-in-Err-clause-found : goal.news::called_on-returns-in-Err-clause-found
-called_on-returns-in-Err-clause-found g t c =
-    let s = c.body_entered.new.stops in
-    let k = c.waits_holding.new in
-    broke_found g.S.WorldStore.meaning Value Value c.args.config.now c.body_entered.new.config k.config c.args.frame.now c.args.node (holds.Value (values.Object c.args.object) ∷ []) (points.Expr expr.NewCall) c.in-Err.end s.waits s.top c.waits_holding.result k.stops.waits k.stops.top
-    c.waits_holding.ensures.same c.waits_holding.ensures.waits c.in-Err.ensures.later c.requires.there c.requires.node (c.requires.object, tt) tt c.in-Err.ensures.found
-
-pub called_on-returns-in-Err-clause-does : goal.news::called_on-returns-in-Err-clause-does
-called_on-returns-in-Err-clause-does g t c =
-    let s = c.body_entered.new.stops in
-    let k = c.waits_holding.new in
-    call_broke g.S.WorldStore.meaning c.args.config.now c.body_entered.new.config c.args.frame.now c.args.function c.args.object c.args.values.now c.args.tree c.args.body c.requires.function c.requires.code
-    k.config c.args.node c.in-Err.end s.waits s.top c.waits_holding.result k.stops.waits k.stops.top c.waits_holding.ensures.same c.waits_holding.ensures.waits c.in-Err.ensures.later c.in-Err.ensures.does
-
-pub new_callee-returns-in-Object-clause-does : goal.news::new_callee-returns-in-Object-clause-does
-new_callee-returns-in-Object-clause-does g t c =
+pub constructed-body_entered-requires : goal.news::constructed-body_entered-requires
+constructed-body_entered-requires g t c =
     let m = g.S.WorldStore.meaning in
     let old = c.args.config.now in
     let f = c.args.frame.now in
-    let k = c.new_function.new in
-    let D : Value → Type 0 = λ v. Evaluates m (line_here m old f (λ t env. line.new_callee (arguments_of (node_in t (node_among old.units.items f.tree c.args.node))) env (value_in t v))) gives_in c.new_function.result k.stops.waits k.stops.top old k.config in
-    subst D (sym c.in-Object.is) c.new_function.ensures.does
+    let made = c.create.new.config in
+    let l = later_twice m old c.prototype_of.new.config made c.in_ok-prototype.ensures.later c.in_ok-object.ensures.later in
+    let base : Base m made = l.base in
+    let there : IsThere m made f = l.frames f c.requires.there in
+    let node : StandsHere made f c.args.node = stands_later m old f made c.args.node l c.requires.node in
+    let empty : c.args.stops.now.waits ≡ [] = c.requires.empty in
+    let function : HasObject made c.args.function = l.objects c.args.function c.requires.function in
+    let this : HasObject made c.in_ok-object.object = c.in_ok-object.ensures.found in
+    let values : All (HasValue made) c.args.values.now = values_later m old made c.args.values.now l c.requires.values in
+    let code : IsScript made c.args.function c.args.tree c.args.body = script_later m old made c.args.function c.args.tree c.args.body l c.requires.function c.requires.code in
+    search (rules, base, there, node, empty, function, this, values, code)
 
--- the callee is left to a frame
+pub constructed-result_of_new-requires : goal.news::constructed-result_of_new-requires
+constructed-result_of_new-requires g t c = record { object = c.in-Ok.ensures.later.objects c.in_ok-object.object c.in_ok-object.ensures.found; given = c.in-Ok.ensures.found.0 }
 
-pub called_on-result_of_new-requires : goal.news::called_on-result_of_new-requires
-called_on-result_of_new-requires g t c = record { object = c.in-Ok.ensures.later.objects c.args.object c.requires.object; given = c.in-Ok.ensures.found.0 }
+pub constructed-returns-in-Ok-clause-later : goal.news::constructed-returns-in-Ok-clause-later
+constructed-returns-in-Ok-clause-later g t c =
+    let m = g.S.WorldStore.meaning in
+    let old = c.args.config.now in
+    let made = c.create.new.config in
+    later_twice m old made c.body_entered.new.config (later_twice m old c.prototype_of.new.config made c.in_ok-prototype.ensures.later c.in_ok-object.ensures.later) c.in-Ok.ensures.later
+
+pub constructed-returns-in-Ok-clause-found : goal.news::constructed-returns-in-Ok-clause-found
+constructed-returns-in-Ok-clause-found g t c = (c.result_of_new.ensures.found, c.in-Ok.ensures.found.1)
+
+pub constructed-returns-in-Ok-clause-does : goal.news::constructed-returns-in-Ok-clause-does
+constructed-returns-in-Ok-clause-does g t c =
+    let m = g.S.WorldStore.meaning in
+    let old = c.args.config.now in
+    let f = c.args.frame.now in
+    let callee = c.args.function in
+    let mid = c.prototype_of.new.config in
+    let made = c.create.new.config in
+    let new = c.body_entered.new.config in
+    let p = c.in_ok-prototype.prototype in
+    let o = c.in_ok-object.object in
+    let vs = c.args.values.now in
+    let s = c.body_entered.new.stops in
+    let l = later_twice m old mid made c.in_ok-prototype.ensures.later c.in_ok-object.ensures.later in
+    prototype_found m old mid new f callee c.args.tree c.args.body p vs (Ok c.result_of_new.result) s.waits s.top c.requires.function c.requires.code c.in_ok-prototype.ensures.does c.in_ok-prototype.ensures.later
+    (new_made m mid made new f callee p o vs (Ok c.result_of_new.result) s.waits s.top (c.in_ok-object.ensures.makes (λ u. object_of class.Plain (Some p)) (λ u more. ap (object_in u) c.object_of.ensures)) c.in_ok-object.ensures.later
+    (call_given m made new f callee o vs c.args.tree c.args.body (l.objects callee c.requires.function) (script_later m old made callee c.args.tree c.args.body l c.requires.function c.requires.code)
+    c.in-Ok.given c.result_of_new.result s.waits s.top s.waits s.top c.in-Ok.ensures.later c.in-Ok.ensures.does c.result_of_new.ensures.is))
+
+pub constructed-returns-in-Err-clause-later : goal.news::constructed-returns-in-Err-clause-later
+constructed-returns-in-Err-clause-later g t c =
+    let m = g.S.WorldStore.meaning in
+    let old = c.args.config.now in
+    let made = c.create.new.config in
+    let s = c.body_entered.new.stops in
+    let k = c.waits_holding.new in
+    later_then m {A = Value} old made k.config (Err c.waits_holding.result) (later_twice m old c.prototype_of.new.config made c.in_ok-prototype.ensures.later c.in_ok-object.ensures.later)
+    (broke_later m Value Value made c.body_entered.new.config k.config c.args.frame.now c.args.node (holds.Value (values.Object c.in_ok-object.object) ∷ []) (points.Expr expr.NewCall) c.in-Err.end s.waits s.top c.waits_holding.result k.stops.waits k.stops.top
+    c.waits_holding.ensures.same c.waits_holding.ensures.waits c.in-Err.ensures.later)
+
+pub constructed-returns-in-Err-clause-found : goal.news::constructed-returns-in-Err-clause-found
+constructed-returns-in-Err-clause-found g t c =
+    let m = g.S.WorldStore.meaning in
+    let old = c.args.config.now in
+    let f = c.args.frame.now in
+    let made = c.create.new.config in
+    let s = c.body_entered.new.stops in
+    let k = c.waits_holding.new in
+    let l = later_twice m old c.prototype_of.new.config made c.in_ok-prototype.ensures.later c.in_ok-object.ensures.later in
+    broke_found m Value Value made c.body_entered.new.config k.config f c.args.node (holds.Value (values.Object c.in_ok-object.object) ∷ []) (points.Expr expr.NewCall) c.in-Err.end s.waits s.top c.waits_holding.result k.stops.waits k.stops.top
+    c.waits_holding.ensures.same c.waits_holding.ensures.waits c.in-Err.ensures.later (l.frames f c.requires.there) (stands_later m old f made c.args.node l c.requires.node) (c.in_ok-object.ensures.found, tt) tt c.in-Err.ensures.found
+
+pub constructed-returns-in-Err-clause-does : goal.news::constructed-returns-in-Err-clause-does
+constructed-returns-in-Err-clause-does g t c =
+    let m = g.S.WorldStore.meaning in
+    let old = c.args.config.now in
+    let f = c.args.frame.now in
+    let callee = c.args.function in
+    let mid = c.prototype_of.new.config in
+    let made = c.create.new.config in
+    let p = c.in_ok-prototype.prototype in
+    let o = c.in_ok-object.object in
+    let vs = c.args.values.now in
+    let s = c.body_entered.new.stops in
+    let k = c.waits_holding.new in
+    let l = later_twice m old mid made c.in_ok-prototype.ensures.later c.in_ok-object.ensures.later in
+    prototype_found m old mid k.config f callee c.args.tree c.args.body p vs (Err c.waits_holding.result) k.stops.waits k.stops.top c.requires.function c.requires.code c.in_ok-prototype.ensures.does c.in_ok-prototype.ensures.later
+    (new_made m mid made k.config f callee p o vs (Err c.waits_holding.result) k.stops.waits k.stops.top (c.in_ok-object.ensures.makes (λ u. object_of class.Plain (Some p)) (λ u more. ap (object_in u) c.object_of.ensures)) c.in_ok-object.ensures.later
+    (call_broke m made c.body_entered.new.config f callee o vs c.args.tree c.args.body (l.objects callee c.requires.function) (script_later m old made callee c.args.tree c.args.body l c.requires.function c.requires.code)
+    k.config c.args.node c.in-Err.end s.waits s.top c.waits_holding.result k.stops.waits k.stops.top c.waits_holding.ensures.same c.waits_holding.ensures.waits c.in-Err.ensures.later c.in-Err.ensures.does))

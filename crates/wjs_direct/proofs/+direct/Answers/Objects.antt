@@ -10,8 +10,8 @@ use Rattle.wjs_model.specs.declared.point.ExprPoint.TheVariants as expr
 use Rattle.wjs_frames.proofs.Parting.{stands_later}
 use Rattle.wjs_heap_steps.proofs.Later.{later_same, later_twice}
 use Rattle.wjs_stopping.specs.Evaluating.{Leaves}
-use Rattle.wjs_direct.specs.Deeds.{line_here}
-use Rattle.wjs_direct.proofs.Parts.{broke_found, broke_later, later_then}
+use Rattle.wjs_direct_lines.specs.Deeds.{line_here}
+use Rattle.wjs_direct_lines.proofs.Parts.{broke_found, broke_later, later_then}
 use Rattle.wjs_direct.specs.Literals.{pairs_left}
 use Rattle.wjs_direct.proofs.ObjectLiterals.{key_there, object_made, properties_done, property_broke, property_given, value_stands}
 use Rattle.wjs_direct.proofs.+direct.Goals as goal

@@ -1,5 +1,5 @@
 -- What holds of the functions of `prefixes`.
-use Rattle.std.proofs.Common.{◌≡◌, true, rules, [], inl, refl, ap, ◌∙◌, sym}
+use Rattle.std.proofs.Common.{◌≡◌, true, rules, [], inl, refl, ap, ◌∙◌, subst, sym}
 use Rattle.std.specs.Prelude.{Err}
 use Rattle.wjs_base.specs.declared.values.Value.{Value}
 use Rattle.wjs_tree.specs.declared.node.Node.TheVariants as nodes
@@ -16,12 +16,15 @@ use Rattle.wjs_frames.proofs.OperandLines.{expr_is}
 use Rattle.wjs_frames.proofs.Parting.{stands_here, stands_later}
 use Rattle.wjs_frames.specs.declared.part.Part.TheVariants as part
 use Rattle.wjs_quick.specs.Operating.{after_prefix, is_of_value}
-use Rattle.wjs_direct.proofs.Prefixing.{prefix_stands, prefix_waits}
+use Rattle.wjs_direct_lines.proofs.Prefixing.{prefix_stands, prefix_waits}
 use Rattle.wjs_quick.proofs.Operations.{prefix_is}
 use Rattle.wjs_stopping.specs.Ends.{gives_in}
 use Rattle.wjs_stopping.specs.Waiting.{at_node}
-use Rattle.wjs_direct.proofs.Forming.{form_goes_on, node_there}
-use Rattle.wjs_direct.proofs.Parts.{broke_does, broke_found, broke_later, later_stopped, later_then, line_form, ready_does, stop_found}
+use Rattle.wjs_direct_lines.specs.declared.operands.Query.TheVariants as queries
+use Rattle.wjs_direct_lines.specs.Deeds.{IsNode}
+use Rattle.wjs_direct_lines.specs.Operands.{operator_of}
+use Rattle.wjs_direct_lines.proofs.Forming.{form_goes_on, node_there}
+use Rattle.wjs_direct_lines.proofs.Parts.{broke_does, broke_found, broke_later, later_stopped, later_then, line_form, ready_does, stop_found}
 use Rattle.wjs_tree.specs.declared.operators.PrefixOperator.{PrefixOperator}
 use Rattle.wjs_tree.specs.declared.operators.UpdateOperator.TheVariants as updates
 use Rattle.wjs_model.specs.declared.point.Fix.TheVariants as fixes
@@ -158,3 +161,21 @@ on_target-returns-in-Decrement-clause-does g t c =
     let k = c.update-in-Decrement.new.stops in
     line_form m gives_in old c.update-in-Decrement.new.config f (λ t env. entry (AtExpr c.args.node.0) env) c.update-in-Decrement.result k.waits k.top (AtTarget c.args.part.0) (λ t env. then_reference (line.update_reference (fix_in fixes.Pre) updates.Decrement env))
     (λ t more. expr_is m old f c.args.node (nodes.Prefix c.args.operator c.args.part) t c.requires.is ∙ ap (λ (o : PrefixOperator). line.prefix_of o c.args.part.0 (env_in m old t f)) c.in-Decrement.is) c.update-in-Decrement.ensures.does
+
+-- `delete` and `typeof`
+
+pub on_target-asked-requires : goal.prefixes::on_target-asked-requires
+on_target-asked-requires g t c =
+    let m = g.S.WorldStore.meaning in
+    let old = c.args.config.now in
+    let f = c.args.frame.now in
+    let is : IsNode m old f c.args.node (nodes.Prefix (operator_of queries.Delete) c.args.part) = subst (λ (o : PrefixOperator). IsNode m old f c.args.node (nodes.Prefix o c.args.part)) c.in-Delete.is c.requires.is in
+    search (rules, is)
+
+pub on_target-asked-requires-in-Typeof : goal.prefixes::on_target-asked-requires-in-Typeof
+on_target-asked-requires-in-Typeof g t c =
+    let m = g.S.WorldStore.meaning in
+    let old = c.args.config.now in
+    let f = c.args.frame.now in
+    let is : IsNode m old f c.args.node (nodes.Prefix (operator_of queries.Typeof) c.args.part) = subst (λ (o : PrefixOperator). IsNode m old f c.args.node (nodes.Prefix o c.args.part)) c.in-Typeof.is c.requires.is in
+    search (rules, is)

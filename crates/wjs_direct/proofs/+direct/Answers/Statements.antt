@@ -17,7 +17,7 @@ use Rattle.wjs_meaning.specs.Loops as loops
 use Rattle.wjs_model.specs.declared.frame.Completion.{Completion}
 use Rattle.wjs_model.specs.Contents.{completion_in}
 use Rattle.wjs_model.specs.Lists.{block_items}
-use Rattle.wjs_model.specs.Soundness.{Base, HasCompletion, HasValue, IsThere, StandsHere, StandsIf}
+use Rattle.wjs_model.specs.Soundness.{Base, HasCompletion, IsThere, StandsHere, StandsIf}
 use Rattle.wjs_model.specs.declared.config.Config.{Config}
 use Rattle.wjs_model.specs.declared.frame.Completion.TheVariants as completions
 use Rattle.wjs_model.specs.declared.frame.Phase.TheVariants as phases
@@ -30,6 +30,8 @@ use Rattle.wjs_frames.proofs.Places.{node_known}
 use Rattle.wjs_frames.proofs.Parting.{stands_here, stands_if_later, stands_later}
 use Rattle.wjs_frames.specs.declared.part.Part.TheVariants as part
 use Rattle.wjs_heap_steps.proofs.Later.{later_same, later_twice}
+use Rattle.wjs_loops.specs.declared.for_ins.Taker.TheVariants as takers
+use Rattle.wjs_loops.specs.ForIns.{taker_of}
 use Rattle.wjs_quick.proofs.Coming.{later_left}
 use Rattle.wjs_effects.specs.Sequences.{NextIs}
 use Rattle.wjs_effects.proofs.Leaving.{shorten_as}
@@ -42,18 +44,20 @@ use Rattle.wjs_effects.proofs.StandingFors.{for_stands}
 use Rattle.wjs_stopping.specs.Ends.{gives_in}
 use Rattle.wjs_stopping.specs.Evaluating.{Evaluates}
 use Rattle.wjs_stopping.specs.Waiting.{at_node}
-use Rattle.wjs_direct.specs.Deeds.{IsNode, goal_here}
-use Rattle.wjs_direct.proofs.Forming.{form_goes_on, line_ended, node_there}
-use Rattle.wjs_direct.proofs.Parts.{broke_does, broke_found, broke_later, did, due_does, else_stands, form_ends, later_stopped, later_then, line_as, line_form, line_last, ready_does, step_does, stop_found}
-use Rattle.wjs_direct.proofs.Elements.{block_begins, element_form, element_passed, element_then, not_normal, rest_all, rest_ended, rest_from, waits_then}
+use Rattle.wjs_direct_lines.specs.Deeds.{IsNode, goal_here}
+use Rattle.wjs_direct_lines.proofs.Forming.{form_goes_on, line_ended, node_there}
+use Rattle.wjs_direct_lines.proofs.Parts.{broke_does, broke_found, broke_later, did, due_does, else_stands, form_ends, later_stopped, later_then, line_as, line_form, line_last, ready_does, step_does, stop_found}
+use Rattle.wjs_direct_lines.proofs.Elements.{block_begins, element_form, element_passed, element_then, not_normal, rest_all, rest_ended, rest_from, waits_then}
 use Rattle.wjs_direct.proofs.Ending.{end_does}
-use Rattle.wjs_direct.proofs.Declaring.{for_begins, var_begins}
-use Rattle.wjs_direct.proofs.Assigning.{returned_is, returned_there}
-use Rattle.wjs_direct.proofs.Looping.{if_stands, round_is}
+use Rattle.wjs_direct_lines.proofs.Declaring.{for_begins, var_begins}
+use Rattle.wjs_direct_lines.proofs.Assigning.{returned_is, returned_there}
+use Rattle.wjs_direct_lines.proofs.Nesting.{if_stands}
+use Rattle.wjs_direct.proofs.Looping.{round_is}
 use Rattle.wjs_direct.specs.Rounds.{IsDo, IsLoop, do_round, loop_round}
-use Rattle.wjs_direct.specs.Variables.{DeclaresFirst, variables_left}
+use Rattle.wjs_direct_lines.specs.Variables.{DeclaresFirst, variables_left}
 use Rattle.wjs_direct.specs.Tries.{caught_here}
 use Rattle.wjs_direct.specs.Switches.{sought_then}
+use Rattle.wjs_direct.specs.Visits.{TakesNames, over_left}
 use Rattle.wjs_direct.proofs.Trying.{last_stands, try_begins}
 use Rattle.wjs_direct.proofs.Switching.{switch_begins}
 use Rattle.wjs_direct.proofs.+direct.Goals as goal
@@ -236,8 +240,11 @@ condition-value-requires g t c =
     let test : StandsHere old f c.args.test = stands_here m old (at_node f c.args.node []) (nodes.If c.args.test c.args.yes c.args.no) c.args.test (node_there m old f c.args.node [] c.requires.there c.requires.node tt) c.requires.is (inl refl) in
     search (rules, test)
 
-pub condition-chosen-requires : goal.statements::condition-chosen-requires
-condition-chosen-requires g t c =
+pub condition-to_boolean-requires : goal.statements::condition-to_boolean-requires
+condition-to_boolean-requires g t c = record { base = c.in-Ok.ensures.later.base; value = c.in-Ok.ensures.found.0 }
+
+pub condition-statement-requires : goal.statements::condition-statement-requires
+condition-statement-requires g t c =
     let m = g.S.WorldStore.meaning in
     let old = c.args.config.now in
     let f = c.args.frame.now in
@@ -246,46 +253,77 @@ condition-chosen-requires g t c =
     let base : Base m mid = l.base in
     let there : IsThere m mid f = l.frames f c.requires.there in
     let empty : c.value.new.stops.waits ≡ [] = c.in-Ok.ensures.found.1 in
-    let first : StandsHere mid f c.args.yes = stands_later m old f mid c.args.yes l
+    let part : StandsHere mid f c.args.yes = stands_later m old f mid c.args.yes l
     (stands_here m old (at_node f c.args.node []) (nodes.If c.args.test c.args.yes c.args.no) c.args.yes (node_there m old f c.args.node [] c.requires.there c.requires.node tt) c.requires.is (inr (inl refl))) in
-    let second : StandsIf mid f c.args.no = stands_if_later m old f mid c.args.no l (else_stands m old f c.args.node c.args.test c.args.yes c.args.no f.node c.requires.there c.requires.node c.requires.is) in
-    let truth : HasValue mid c.in-Ok.truth = c.in-Ok.ensures.found.0 in
-    search (rules, base, there, empty, first, second, truth)
+    search (rules, base, there, empty, part)
 
-pub condition-returns-in-Ok-clause-later : goal.statements::condition-returns-in-Ok-clause-later
-condition-returns-in-Ok-clause-later g t c =
-    later_then g.S.WorldStore.meaning c.args.config.now c.value.new.config c.chosen.new.config c.chosen.result c.in-Ok.ensures.later c.chosen.ensures.later
+pub condition-returns-then-to_boolean-clause-later : goal.statements::condition-returns-then-to_boolean-clause-later
+condition-returns-then-to_boolean-clause-later g t c =
+    later_then g.S.WorldStore.meaning c.args.config.now c.value.new.config c.statement.new.config c.statement.result c.in-Ok.ensures.later c.statement.ensures.later
 
-pub condition-returns-in-Ok-clause-does : goal.statements::condition-returns-in-Ok-clause-does
-condition-returns-in-Ok-clause-does g t c =
+pub condition-returns-then-to_boolean-clause-does : goal.statements::condition-returns-then-to_boolean-clause-does
+condition-returns-then-to_boolean-clause-does g t c =
+    let m = g.S.WorldStore.meaning in
+    let mid = c.value.new.config in
+    let new = c.statement.new.config in
+    let f = c.args.frame.now in
+    let v = c.in-Ok.truth in
     let s = c.value.new.stops in
-    let k = c.chosen.new.stops in
-    form_goes_on g.S.WorldStore.meaning gives_in completion_in c.args.config.now c.value.new.config c.chosen.new.config c.args.frame.now (AtExpr c.args.test.0) (λ t env. then_value (statements.if_test c.args.yes.0 (number c.args.no) env)) c.in-Ok.truth
-    c.chosen.result s.waits s.top k.waits k.top c.in-Ok.ensures.later c.in-Ok.ensures.does c.chosen.ensures.does
-
-pub chosen-returns-then-to_boolean-clause-does : goal.statements::chosen-returns-then-to_boolean-clause-does
-chosen-returns-then-to_boolean-clause-does g t c =
-    let m = g.S.WorldStore.meaning in
-    let old = c.args.config.now in
-    let f = c.args.frame.now in
     let k = c.statement.new.stops in
-    line_last m completion_in old c.statement.new.config f (λ t env. statements.if_test c.args.yes.0 (number c.args.no) env (value_in t c.args.truth)) c.statement.result k.waits k.top (AtStmt c.args.yes.0)
-    (λ t more. if_yes c.args.yes.0 (number c.args.no) (env_in m old t f) (value_in t c.args.truth) (c.to_boolean.ensures t more ∙ c.if-to_boolean.true)) c.statement.ensures.does
+    form_goes_on m gives_in completion_in c.args.config.now mid new f (AtExpr c.args.test.0) (λ t env. then_value (statements.if_test c.args.yes.0 (number c.args.no) env)) v
+    c.statement.result s.waits s.top k.waits k.top c.in-Ok.ensures.later c.in-Ok.ensures.does
+    (line_last m completion_in mid new f (λ t env. statements.if_test c.args.yes.0 (number c.args.no) env (value_in t v)) c.statement.result k.waits k.top (AtStmt c.args.yes.0)
+    (λ t more. if_yes c.args.yes.0 (number c.args.no) (env_in m mid t f) (value_in t v) (c.to_boolean.ensures t more ∙ c.if-to_boolean.true)) c.statement.ensures.does)
 
-pub chosen-returns-in-Some-clause-does : goal.statements::chosen-returns-in-Some-clause-does
-chosen-returns-in-Some-clause-does g t c =
+pub condition-statement-requires-in-Some : goal.statements::condition-statement-requires-in-Some
+condition-statement-requires-in-Some g t c =
     let m = g.S.WorldStore.meaning in
     let old = c.args.config.now in
     let f = c.args.frame.now in
-    let k = c.statement-in-Some.new.stops in
-    line_last m completion_in old c.statement-in-Some.new.config f (λ t env. statements.if_test c.args.yes.0 (number c.args.no) env (value_in t c.args.truth)) c.statement-in-Some.result k.waits k.top (AtStmt c.in-Some.other.0)
-    (λ t more. if_no c.args.yes.0 (number c.args.no) (env_in m old t f) (value_in t c.args.truth) (c.to_boolean.ensures t more ∙ c.if-to_boolean.false) ∙ ap (λ (o : Option NodeId). statements.else_of (number o) (env_in m old t f)) c.in-Some.is) c.statement-in-Some.ensures.does
+    let mid = c.value.new.config in
+    let l = c.in-Ok.ensures.later in
+    let base : Base m mid = l.base in
+    let there : IsThere m mid f = l.frames f c.requires.there in
+    let empty : c.value.new.stops.waits ≡ [] = c.in-Ok.ensures.found.1 in
+    let part : StandsHere mid f c.in-Some.other = subst (λ (o : Option NodeId). StandsIf mid f o) c.in-Some.is
+    (stands_if_later m old f mid c.args.no l (else_stands m old f c.args.node c.args.test c.args.yes c.args.no f.node c.requires.there c.requires.node c.requires.is)) in
+    search (rules, base, there, empty, part)
 
-pub chosen-returns-in-None-clause-does : goal.statements::chosen-returns-in-None-clause-does
-chosen-returns-in-None-clause-does g t c =
-    let s = c.args.stops.now in
-    line_ended g.S.WorldStore.meaning completion_in c.args.config.now c.args.frame.now (λ t env. statements.if_test c.args.yes.0 (number c.args.no) env (value_in t c.args.truth)) completions.Normal s.waits s.top
-    (λ t more env. shorten_as _ _ (if_no c.args.yes.0 (number c.args.no) env (value_in t c.args.truth) (c.to_boolean.ensures t more ∙ c.if-to_boolean.false) ∙ ap (λ (o : Option NodeId). statements.else_of (number o) env) c.in-None.is))
+pub condition-returns-in-Some-clause-later : goal.statements::condition-returns-in-Some-clause-later
+condition-returns-in-Some-clause-later g t c =
+    later_then g.S.WorldStore.meaning c.args.config.now c.value.new.config c.statement-in-Some.new.config c.statement-in-Some.result c.in-Ok.ensures.later c.statement-in-Some.ensures.later
+
+pub condition-returns-in-Some-clause-does : goal.statements::condition-returns-in-Some-clause-does
+condition-returns-in-Some-clause-does g t c =
+    let m = g.S.WorldStore.meaning in
+    let mid = c.value.new.config in
+    let new = c.statement-in-Some.new.config in
+    let f = c.args.frame.now in
+    let v = c.in-Ok.truth in
+    let s = c.value.new.stops in
+    let k = c.statement-in-Some.new.stops in
+    form_goes_on m gives_in completion_in c.args.config.now mid new f (AtExpr c.args.test.0) (λ t env. then_value (statements.if_test c.args.yes.0 (number c.args.no) env)) v
+    c.statement-in-Some.result s.waits s.top k.waits k.top c.in-Ok.ensures.later c.in-Ok.ensures.does
+    (line_last m completion_in mid new f (λ t env. statements.if_test c.args.yes.0 (number c.args.no) env (value_in t v)) c.statement-in-Some.result k.waits k.top (AtStmt c.in-Some.other.0)
+    (λ t more. if_no c.args.yes.0 (number c.args.no) (env_in m mid t f) (value_in t v) (c.to_boolean.ensures t more ∙ c.if-to_boolean.false) ∙ ap (λ (o : Option NodeId). statements.else_of (number o) (env_in m mid t f)) c.in-Some.is) c.statement-in-Some.ensures.does)
+
+pub condition-returns-in-None-clause-later : goal.statements::condition-returns-in-None-clause-later
+condition-returns-in-None-clause-later g t c = c.in-Ok.ensures.later
+
+pub condition-returns-in-None-clause-found : goal.statements::condition-returns-in-None-clause-found
+condition-returns-in-None-clause-found g t c = (tt, c.in-Ok.ensures.found.1)
+
+pub condition-returns-in-None-clause-does : goal.statements::condition-returns-in-None-clause-does
+condition-returns-in-None-clause-does g t c =
+    let m = g.S.WorldStore.meaning in
+    let mid = c.value.new.config in
+    let f = c.args.frame.now in
+    let v = c.in-Ok.truth in
+    let s = c.value.new.stops in
+    form_goes_on m gives_in completion_in c.args.config.now mid mid f (AtExpr c.args.test.0) (λ t env. then_value (statements.if_test c.args.yes.0 (number c.args.no) env)) v
+    (Ok completions.Normal) s.waits s.top s.waits s.top c.in-Ok.ensures.later c.in-Ok.ensures.does
+    (line_ended m completion_in mid f (λ t env. statements.if_test c.args.yes.0 (number c.args.no) env (value_in t v)) completions.Normal s.waits s.top
+    (λ t more env. shorten_as _ _ (if_no c.args.yes.0 (number c.args.no) env (value_in t v) (c.to_boolean.ensures t more ∙ c.if-to_boolean.false) ∙ ap (λ (o : Option NodeId). statements.else_of (number o) env) c.in-None.is)))
 
 -- blocks
 
@@ -674,6 +712,55 @@ statement_form-returns-in-Some-Switch-clause-does g t c =
     let k = c.switch.new.stops in
     line_form m completion_in old c.switch.new.config f (λ t env. entry (AtStmt c.args.node.0) env) c.switch.result k.waits k.top (AtExpr s.e.0) (sought_then old f c.args.node)
     (λ t more. stmt_is m old f c.args.node _ t refl ∙ switch_begins t _ s.e _ c.args.node.0 (env_in m old t f) (s.ensures ∙ s.field-0-is)) c.switch.ensures.does
+
+-- the loop `for`-`in`
+
+pub statement_form-for_in-requires : goal.statements::statement_form-for_in-requires
+statement_form-for_in-requires g t c =
+    let m = g.S.WorldStore.meaning in
+    let old = c.args.config.now in
+    let f = c.args.frame.now in
+    let s = c.in-Some-ForIn in
+    let n = s.ensures ∙ s.field-0-is in
+    let here = node_there m old f c.args.node [] c.requires.there c.requires.node tt in
+    let taker : TakesNames old f c.args.node (takers.Target s.t) = ap taker_of n in
+    let object : StandsHere old f s.object = stands_here m old (at_node f c.args.node []) (nodes.ForIn s.t s.object s.body) s.object here n (inr (inl refl)) in
+    let body : StandsHere old f s.body = stands_here m old (at_node f c.args.node []) (nodes.ForIn s.t s.object s.body) s.body here n (inr (inr (inl refl))) in
+    search (rules, taker, object, body)
+
+pub statement_form-returns-in-Some-ForIn-clause-does : goal.statements::statement_form-returns-in-Some-ForIn-clause-does
+statement_form-returns-in-Some-ForIn-clause-does g t c =
+    let m = g.S.WorldStore.meaning in
+    let old = c.args.config.now in
+    let f = c.args.frame.now in
+    let s = c.in-Some-ForIn in
+    let k = c.for_in.new.stops in
+    line_form m completion_in old c.for_in.new.config f (λ t env. entry (AtStmt c.args.node.0) env) c.for_in.result k.waits k.top (AtExpr s.object.0) (λ t env. then_value (over_left c.args.node (takers.Target s.t) s.body t env))
+    (λ t more. stmt_is m old f c.args.node (nodes.ForIn s.t s.object s.body) t (s.ensures ∙ s.field-0-is)) c.for_in.ensures.does
+
+pub statement_form-for_in-requires-in-Some-ForVarIn : goal.statements::statement_form-for_in-requires-in-Some-ForVarIn
+statement_form-for_in-requires-in-Some-ForVarIn g t c =
+    let m = g.S.WorldStore.meaning in
+    let old = c.args.config.now in
+    let f = c.args.frame.now in
+    let s = c.in-Some-ForVarIn in
+    let n = s.ensures ∙ s.field-0-is in
+    let here = node_there m old f c.args.node [] c.requires.there c.requires.node tt in
+    let taker : TakesNames old f c.args.node (takers.Variable s.name) = ap taker_of n in
+    let object : StandsHere old f s.object = stands_here m old (at_node f c.args.node []) (nodes.ForVarIn s.name s.object s.body) s.object here n (inl refl) in
+    let body : StandsHere old f s.body = stands_here m old (at_node f c.args.node []) (nodes.ForVarIn s.name s.object s.body) s.body here n (inr (inl refl)) in
+    search (rules, taker, object, body)
+
+pub statement_form-returns-in-Some-ForVarIn-clause-does : goal.statements::statement_form-returns-in-Some-ForVarIn-clause-does
+statement_form-returns-in-Some-ForVarIn-clause-does g t c =
+    let m = g.S.WorldStore.meaning in
+    let old = c.args.config.now in
+    let f = c.args.frame.now in
+    let s = c.in-Some-ForVarIn in
+    let r = c.for_in-in-Some-ForVarIn in
+    let k = r.new.stops in
+    line_form m completion_in old r.new.config f (λ t env. entry (AtStmt c.args.node.0) env) r.result k.waits k.top (AtExpr s.object.0) (λ t env. then_value (over_left c.args.node (takers.Variable s.name) s.body t env))
+    (λ t more. stmt_is m old f c.args.node (nodes.ForVarIn s.name s.object s.body) t (s.ensures ∙ s.field-0-is)) r.ensures.does
 
 -- labels, and the loop `do`
 

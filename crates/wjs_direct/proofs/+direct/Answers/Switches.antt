@@ -15,9 +15,9 @@ use Rattle.wjs_heap_steps.proofs.Later.{later_same, later_twice}
 use Rattle.wjs_stopping.specs.Ends.{gives_in}
 use Rattle.wjs_stopping.specs.Evaluating.{Leaves}
 use Rattle.wjs_stopping.proofs.Evaluating.{leaves_all}
-use Rattle.wjs_direct.specs.Deeds.{form_here, goal_here, line_here}
+use Rattle.wjs_direct_lines.specs.Deeds.{form_here, goal_here, line_here}
 use Rattle.wjs_direct.specs.Switches.{case_then, cases_left, clauses_left, default_left, sought_then, statement_then, statements_left}
-use Rattle.wjs_direct.proofs.Parts.{broke_does, broke_found, broke_later, form_ends, later_then}
+use Rattle.wjs_direct_lines.proofs.Parts.{broke_does, broke_found, broke_later, form_ends, later_then}
 use Rattle.wjs_direct.proofs.Switching.{case_begins, case_equal, case_there, case_unequal, case_waits, cases_come, clauses_begin, default_begins, default_comes, end_is, end_there, left_does, part_form, part_passed, part_there, part_waits, parts_end, value_waits}
 use Rattle.wjs_direct.proofs.+direct.Goals as goal
 
@@ -223,8 +223,8 @@ cases-returns-in-Err-clause-does g t c =
 
 -- none is equal
 
-pub cases-run_default-requires : goal.switches::cases-run_default-requires
-cases-run_default-requires g t c =
+pub cases-run_statements-requires : goal.switches::cases-run_statements-requires
+cases-run_statements-requires g t c =
     let m = g.S.WorldStore.meaning in
     let old = c.args.config.now in
     let f = c.args.frame.now in
@@ -239,7 +239,7 @@ cases-run_default-requires g t c =
 
 pub cases-returns-clause-later : goal.switches::cases-returns-clause-later
 cases-returns-clause-later g t c =
-    later_then g.S.WorldStore.meaning c.args.config.now c.loop-case.config c.run_default.new.config c.run_default.result c.loop-case.invariant.later c.run_default.ensures.later
+    later_then g.S.WorldStore.meaning c.args.config.now c.loop-case.config c.run_statements.new.config c.run_statements.result c.loop-case.invariant.later c.run_statements.ensures.later
 
 pub cases-returns-clause-does : goal.switches::cases-returns-clause-does
 cases-returns-clause-does g t c =
@@ -248,12 +248,16 @@ cases-returns-clause-does g t c =
     let mid = c.loop-case.config in
     let f = c.args.frame.now in
     let v = c.args.sought in
-    let k = c.run_default.new.stops in
+    let at = c.in_ok-first.first in
+    let k = c.run_statements.new.stops in
     let first = line_here m old f (cases_left old f c.args.node v 0) in
     let here = line_here m mid f (cases_left mid f c.args.node v c.loop-case.from) in
     let rest = line_here m mid f (default_left mid f c.args.node) in
-    left_does m first rest old mid c.run_default.new.config c.run_default.result k.waits k.top
-    (leaves_all m first here rest old mid mid c.loop-case.invariant.left (default_comes m f c.args.node mid c.loop-case.from v c.in_default.ensures.goes)) c.run_default.ensures.does
+    let last = line_here m mid f (statements_left mid f c.args.node at) in
+    left_does m first last old mid c.run_statements.new.config c.run_statements.result k.waits k.top
+    (leaves_all m first rest last old mid mid
+    (leaves_all m first here rest old mid mid c.loop-case.invariant.left (default_comes m f c.args.node mid c.loop-case.from v c.in_default.ensures.goes))
+    (default_begins m f c.args.node mid at c.in_ok-first.ensures)) c.run_statements.ensures.does
 
 -- where its statements begin
 
@@ -266,16 +270,6 @@ run_clauses-returns-clause-does g t c =
     let k = c.run_statements.new.stops in
     left_does m (line_here m old f (clauses_left old f c.args.node c.args.clause)) (line_here m old f (statements_left old f c.args.node at)) old old c.run_statements.new.config c.run_statements.result k.waits k.top
     (clauses_begin m f c.args.node old c.args.clause at c.in_ok-first.ensures) c.run_statements.ensures.does
-
-pub run_default-returns-clause-does : goal.switches::run_default-returns-clause-does
-run_default-returns-clause-does g t c =
-    let m = g.S.WorldStore.meaning in
-    let old = c.args.config.now in
-    let f = c.args.frame.now in
-    let at = c.in_ok-first.first in
-    let k = c.run_statements.new.stops in
-    left_does m (line_here m old f (default_left old f c.args.node)) (line_here m old f (statements_left old f c.args.node at)) old old c.run_statements.new.config c.run_statements.result k.waits k.top
-    (default_begins m f c.args.node old at c.in_ok-first.ensures) c.run_statements.ensures.does
 
 -- its statements
 

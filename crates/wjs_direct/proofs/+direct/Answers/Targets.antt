@@ -18,14 +18,14 @@ use Rattle.wjs_model.specs.declared.point.Point.TheVariants as points
 use Rattle.wjs_model.specs.declared.point.ExprPoint.TheVariants as expr
 use Rattle.wjs_frames.proofs.Parting.{stands_here, stands_later}
 use Rattle.wjs_frames.specs.declared.part.Part.TheVariants as part
-use Rattle.wjs_direct.proofs.Membering.{dot_later, target_waits}
+use Rattle.wjs_direct_lines.proofs.Membering.{dot_later, target_waits}
 use Rattle.wjs_model.specs.declared.point.Purpose.TheVariants as purposes
 use Rattle.wjs_effects.proofs.Lines.{target_is}
 use Rattle.wjs_stopping.specs.Ends.{gives_in}
 use Rattle.wjs_stopping.specs.Waiting.{at_node}
-use Rattle.wjs_direct.specs.Deeds.{goal_here, refers_in}
-use Rattle.wjs_direct.proofs.Forming.{form_goes_on, node_there}
-use Rattle.wjs_direct.proofs.Parts.{broke_does, broke_found, broke_later, did, due_does, later_stopped, later_then, line_form, ready_does, step_does, stepped, stop_found}
+use Rattle.wjs_direct_lines.specs.Deeds.{goal_here, refers_in}
+use Rattle.wjs_direct_lines.proofs.Forming.{form_goes_on, node_there}
+use Rattle.wjs_direct_lines.proofs.Parts.{broke_does, broke_found, broke_later, did, due_does, later_stopped, later_then, line_form, ready_does, step_does, stepped, stop_found}
 use Rattle.wjs_direct.proofs.+direct.Goals as goal
 
 -- ---- targets

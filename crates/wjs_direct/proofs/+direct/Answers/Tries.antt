@@ -1,6 +1,6 @@
 -- What holds of the functions of `tries`.
 use Rattle.std.proofs.Common.{◌≡◌, rules, [], ◌∷◌, Option, Some, refl, ap, ◌∙◌, subst, sym}
-use Rattle.std.specs.Prelude.{Err, IfSome, Result}
+use Rattle.std.specs.Prelude.{Ok, Err, IfSome, Result}
 use Rattle.wjs_base.specs.Text.{Has}
 use Rattle.wjs_base.specs.declared.ids.NodeId.{NodeId}
 use Rattle.wjs_by_content.specs.Tables.{value_in, text_in}
@@ -22,14 +22,17 @@ use Rattle.wjs_frames.specs.Following.{Later}
 use Rattle.wjs_heap_steps.proofs.Later.{later_twice}
 use Rattle.wjs_effects.proofs.Leaving.{shorten_as}
 use Rattle.wjs_stopping.specs.Evaluating.{Evaluates, HasOutcome, InMemory}
-use Rattle.wjs_direct.specs.Deeds.{goal_here, line_here}
-use Rattle.wjs_direct.proofs.Forming.{line_ended, node_there}
-use Rattle.wjs_direct.proofs.Parts.{broke_does, broke_found, broke_later, form_ends, later_then, line_as, line_form}
-use Rattle.wjs_direct.proofs.Looping.{if_here}
+use Rattle.wjs_stopping.specs.Waiting.{at_node}
+use Rattle.wjs_direct_lines.specs.Deeds.{goal_here, line_here}
+use Rattle.wjs_direct_lines.proofs.Forming.{line_ended, node_there}
+use Rattle.wjs_direct_lines.proofs.Parts.{broke_does, broke_found, broke_later, form_ends, later_then, line_as, line_form}
+use Rattle.wjs_direct_lines.proofs.Nesting.{if_here}
 use Rattle.wjs_tree.specs.declared.node.Handler.{Handler}
 use Rattle.wjs_stopping.specs.declared.ends.Broken.{Broken}
-use Rattle.wjs_direct.specs.Tries.{IsCaught, catch_in, caught_here}
-use Rattle.wjs_direct.proofs.Trying.{catch_does, caught_moved, caught_then, ended_caught, ended_does, ended_found, ended_memory, ended_then, goes_past, goes_to, handled_does, handler_stands, inner_does, inner_stands, inner_there, last_is, last_there, passes_by, stood_does, thrown_is, thrown_there}
+use Rattle.wjs_blocks.specs.Tries.{catch_in}
+use Rattle.wjs_blocks.proofs.Catching.{caught_stands_later}
+use Rattle.wjs_direct.specs.Tries.{IsCaught, caught_here}
+use Rattle.wjs_direct.proofs.Trying.{catch_does, caught_moved, caught_then, ended_caught, ended_does, ended_found, ended_memory, ended_then, goes_past, goes_to, handled_does, inner_does, inner_stands, inner_there, last_is, last_there, passes_by, stood_does, thrown_is, thrown_there}
 use Rattle.wjs_direct.proofs.+direct.Goals as goal
 
 pub throw_of-returns-in-Ok-clause-does : goal.tries::throw_of-returns-in-Ok-clause-does
@@ -66,8 +69,23 @@ throw_of-returns-in-Err-clause-does g t c =
     broke_does m Completion Completion c.args.config.now c.effect.new.config c.waits.new.config c.args.frame.now c.args.node [] (points.Stmt stmt.ThrowValue) c.in-Err.end s.waits s.top c.waits.result k.waits k.top
     c.waits.ensures.same c.waits.ensures.waits completion_in completion_in (AtExpr c.args.e.0) (λ t env. then_value statements.throw_value) (λ l t env. refl) (λ t env e. refl) c.in-Err.ensures.later c.in-Err.ensures.does
 
-pub attempt-block_ended-requires : goal.tries::attempt-block_ended-requires
-attempt-block_ended-requires g t c =
+pub attempt-caught-requires : goal.tries::attempt-caught-requires
+attempt-caught-requires g t c =
+    let m = g.S.WorldStore.meaning in
+    let old = c.args.config.now in
+    let f = c.args.frame.now in
+    let mid = c.attempted.new.config in
+    let l = c.in-Ok.ensures.later in
+    let base : Base m mid = l.base in
+    let there : IsThere m mid f = l.frames f c.requires.there in
+    let node : StandsHere mid f c.args.node = stands_later m old f mid c.args.node l c.requires.node in
+    let empty : c.attempted.new.stops.waits ≡ [] = c.in-Ok.ensures.found.1 in
+    let last : StandsIf mid f c.args.last = stands_if_later m old f mid c.args.last l c.requires.last in
+    let error : HasValue mid c.in-Throws.error = subst (λ (e : Completion). HasCompletion mid e) c.in-Throws.is c.in-Ok.ensures.found.0 in
+    search (rules, base, there, node, empty, last, error)
+
+pub attempt-lastly-requires : goal.tries::attempt-lastly-requires
+attempt-lastly-requires g t c =
     let m = g.S.WorldStore.meaning in
     let old = c.args.config.now in
     let f = c.args.frame.now in
@@ -81,20 +99,38 @@ attempt-block_ended-requires g t c =
     let end : HasCompletion mid c.in-Ok.end = c.in-Ok.ensures.found.0 in
     search (rules, base, there, node, empty, last, end)
 
-pub attempt-returns-in-Ok-clause-later : goal.tries::attempt-returns-in-Ok-clause-later
-attempt-returns-in-Ok-clause-later g t c =
-    later_then g.S.WorldStore.meaning c.args.config.now c.attempted.new.config c.block_ended.new.config c.block_ended.result c.in-Ok.ensures.later c.block_ended.ensures.later
+pub attempt-returns-in-Throws-clause-later : goal.tries::attempt-returns-in-Throws-clause-later
+attempt-returns-in-Throws-clause-later g t c =
+    later_then g.S.WorldStore.meaning c.args.config.now c.attempted.new.config c.caught.new.config c.caught.result c.in-Ok.ensures.later c.caught.ensures.later
 
-pub attempt-returns-in-Ok-clause-does : goal.tries::attempt-returns-in-Ok-clause-does
-attempt-returns-in-Ok-clause-does g t c =
+pub attempt-returns-in-Throws-clause-does : goal.tries::attempt-returns-in-Throws-clause-does
+attempt-returns-in-Throws-clause-does g t c =
     let m = g.S.WorldStore.meaning in
     let old = c.args.config.now in
     let f = c.args.frame.now in
     let mid = c.attempted.new.config in
-    let new = c.block_ended.new.config in
-    let k = c.block_ended.new.stops in
-    ended_then m old mid new f (goal_here m old f (AtStmt c.args.block.0)) (caught_here old f c.args.node c.args.last) c.args.node [] (points.Stmt (stmt.TryBlock c.args.last)) c.in-Ok.end c.block_ended.result k.waits k.top
-    c.in-Ok.ensures.later c.in-Ok.ensures.does (caught_moved m old mid new f c.args.node c.args.last c.in-Ok.end c.block_ended.result k.waits k.top c.in-Ok.ensures.later c.block_ended.ensures.does)
+    let new = c.caught.new.config in
+    let k = c.caught.new.stops in
+    ended_then m old mid new f (goal_here m old f (AtStmt c.args.block.0)) (caught_here old f c.args.node c.args.last) c.args.node [] (points.Stmt (stmt.TryBlock c.args.last)) c.in-Ok.end c.caught.result k.waits k.top
+    c.in-Ok.ensures.later c.in-Ok.ensures.does (caught_moved m old mid new f c.args.node c.args.last c.in-Ok.end c.caught.result k.waits k.top c.in-Ok.ensures.later
+    (subst (λ (e : Completion). Evaluates m (line_here m mid f (λ t env. caught_here mid f c.args.node c.args.last t env (completion_in t e))) completion_in c.caught.result k.waits k.top mid new) (sym c.in-Throws.is) c.caught.ensures.does))
+
+pub attempt-returns-in_default-clause-later : goal.tries::attempt-returns-in_default-clause-later
+attempt-returns-in_default-clause-later g t c =
+    later_then g.S.WorldStore.meaning c.args.config.now c.attempted.new.config c.lastly.new.config c.lastly.result c.in-Ok.ensures.later c.lastly.ensures.later
+
+pub attempt-returns-in_default-clause-does : goal.tries::attempt-returns-in_default-clause-does
+attempt-returns-in_default-clause-does g t c =
+    let m = g.S.WorldStore.meaning in
+    let old = c.args.config.now in
+    let f = c.args.frame.now in
+    let mid = c.attempted.new.config in
+    let new = c.lastly.new.config in
+    let k = c.lastly.new.stops in
+    ended_then m old mid new f (goal_here m old f (AtStmt c.args.block.0)) (caught_here old f c.args.node c.args.last) c.args.node [] (points.Stmt (stmt.TryBlock c.args.last)) c.in-Ok.end c.lastly.result k.waits k.top
+    c.in-Ok.ensures.later c.in-Ok.ensures.does (caught_moved m old mid new f c.args.node c.args.last c.in-Ok.end c.lastly.result k.waits k.top c.in-Ok.ensures.later
+    (line_as m completion_in mid new f (λ t env. caught_here mid f c.args.node c.args.last t env (completion_in t c.in-Ok.end)) c.lastly.result k.waits k.top (λ t env. statements.try_finally (number c.args.last) env (completion_in t c.in-Ok.end))
+    (λ t more. passes_by _ (number c.args.last) (env_in m mid t f) t c.in-Ok.end c.in_default.not-Throws) c.lastly.ensures.does))
 
 pub attempt-returns-in-Err-clause-later : goal.tries::attempt-returns-in-Err-clause-later
 attempt-returns-in-Err-clause-later g t c =
@@ -148,32 +184,6 @@ attempted-returns-clause-does g t c =
 pub attempted-returns-clause-caught : goal.tries::attempted-returns-clause-caught
 attempted-returns-clause-caught g t c = subst (λ (r : Result Completion Broken). IsCaught r) (sym c.ended.ensures) (ended_caught c.statement.result)
 
--- behind the block
-
-pub block_ended-caught-requires : goal.tries::block_ended-caught-requires
-block_ended-caught-requires g t c =
-    let error : HasValue c.args.config.now c.in-Throws.error = subst (λ (e : Completion). HasCompletion c.args.config.now e) c.in-Throws.is c.requires.end in
-    search (rules, error)
-
-pub block_ended-returns-in-Throws-clause-does : goal.tries::block_ended-returns-in-Throws-clause-does
-block_ended-returns-in-Throws-clause-does g t c =
-    let m = g.S.WorldStore.meaning in
-    let old = c.args.config.now in
-    let f = c.args.frame.now in
-    let new = c.caught.new.config in
-    let k = c.caught.new.stops in
-    subst (λ (e : Completion). Evaluates m (line_here m old f (λ t env. caught_here old f c.args.node c.args.last t env (completion_in t e))) completion_in c.caught.result k.waits k.top old new) (sym c.in-Throws.is) c.caught.ensures.does
-
-pub block_ended-returns-in_default-clause-does : goal.tries::block_ended-returns-in_default-clause-does
-block_ended-returns-in_default-clause-does g t c =
-    let m = g.S.WorldStore.meaning in
-    let old = c.args.config.now in
-    let f = c.args.frame.now in
-    let k = c.lastly.new.stops in
-    line_as m completion_in old c.lastly.new.config f (λ t env. caught_here old f c.args.node c.args.last t env (completion_in t c.args.end)) c.lastly.result k.waits k.top
-    (λ t env. statements.try_finally (number c.args.last) env (completion_in t c.args.end))
-    (λ t more. passes_by _ (number c.args.last) (env_in m old t f) t c.args.end c.in_default.not-Throws) c.lastly.ensures.does
-
 -- what was thrown
 
 pub caught-catch-requires : goal.tries::caught-catch-requires
@@ -213,8 +223,8 @@ catch-write-requires g t c =
     let there = c.in_ok-scope.ensures.later.frames c.args.frame.now c.requires.there in
     search (rules, there)
 
-pub catch-handled-requires : goal.tries::catch-handled-requires
-catch-handled-requires g t c =
+pub catch-in_scope-requires : goal.tries::catch-in_scope-requires
+catch-in_scope-requires g t c =
     let m = g.S.WorldStore.meaning in
     let old = c.args.config.now in
     let mid = c.create_scope.new.config in
@@ -225,86 +235,92 @@ catch-handled-requires g t c =
     let all = later_twice m old mid late l w in
     let base : Base m late = w.base in
     let there : IsThere m late f = all.frames f c.requires.there in
-    let node : StandsHere late f c.args.node = stands_later m old f late c.args.node all c.requires.node in
     let empty : c.args.stops.now.waits ≡ [] = c.requires.empty in
     let scope : HasObject late c.in_ok-scope.scope = w.objects c.in_ok-scope.scope c.in_ok-scope.ensures.found in
-    let block : Stands late.units.items late.heap.arena f.tree c.args.handler.block c.in_ok-scope.scope 0 = handler_stands m old mid late f c.args.node c.args.handler c.in_ok-scope.scope (node_there m old f c.args.node [] c.requires.there c.requires.node tt) c.requires.is l (c.in_ok-scope.ensures.outer ∙ ap Some c.scope.ensures) w in
-    let last : StandsIf late f c.args.last = stands_if_later m old f late c.args.last all c.requires.last in
-    search (rules, base, there, node, empty, scope, block, last)
-
-pub catch-returns-clause-later : goal.tries::catch-returns-clause-later
-catch-returns-clause-later g t c =
-    let m = g.S.WorldStore.meaning in
-    let old = c.args.config.now in
-    let late = c.write.new.config in
-    later_then m old late c.handled.new.config c.handled.result (later_twice m old c.create_scope.new.config late c.in_ok-scope.ensures.later c.in_ok-write.ensures.later) c.handled.ensures.later
-
-pub catch-returns-clause-does : goal.tries::catch-returns-clause-does
-catch-returns-clause-does g t c =
-    let k = c.handled.new.stops in
-    catch_does g.S.WorldStore.meaning c.args.config.now c.create_scope.new.config c.write.new.config c.handled.new.config c.args.frame.now c.args.handler c.args.last c.args.error c.in_ok-scope.scope c.scope.result c.name_of-name.result c.handled.result k.waits k.top c.scope.ensures
-    c.in_ok-scope.ensures.does c.in_ok-scope.ensures.later c.name_of-name.ensures.name c.in_ok-write.ensures.does c.in_ok-write.ensures.later c.handled.ensures.does
+    let node : Stands late.units.items late.heap.arena f.tree c.args.handler.block c.in_ok-scope.scope 0 = caught_stands_later m old mid late (at_node f c.args.node []) c.args.handler c.in_ok-scope.scope (node_there m old f c.args.node [] c.requires.there c.requires.node tt) c.requires.is l (c.in_ok-scope.ensures.outer ∙ ap Some c.scope.ensures) w in
+    search (rules, base, there, node, empty, scope)
 
 -- its block
 
-pub handled-lastly-requires : goal.tries::handled-lastly-requires
-handled-lastly-requires g t c =
+pub catch-lastly-requires : goal.tries::catch-lastly-requires
+catch-lastly-requires g t c =
     let m = g.S.WorldStore.meaning in
     let old = c.args.config.now in
     let f = c.args.frame.now in
-    let mid = c.in_scope.new.config in
-    let l = c.in-Ok.ensures.later in
-    let base : Base m mid = l.base in
-    let there : IsThere m mid f = l.frames f c.requires.there in
-    let node : StandsHere mid f c.args.node = stands_later m old f mid c.args.node l c.requires.node in
+    let late = c.write.new.config in
+    let ran = c.in_scope.new.config in
+    let l = later_twice m old late ran (later_twice m old c.create_scope.new.config late c.in_ok-scope.ensures.later c.in_ok-write.ensures.later) c.in-Ok.ensures.later in
+    let base : Base m ran = l.base in
+    let there : IsThere m ran f = l.frames f c.requires.there in
+    let node : StandsHere ran f c.args.node = stands_later m old f ran c.args.node l c.requires.node in
     let empty : c.in_scope.new.stops.waits ≡ [] = c.in-Ok.ensures.found.1 in
-    let last : StandsIf mid f c.args.last = stands_if_later m old f mid c.args.last l c.requires.last in
-    let end : HasCompletion mid c.in-Ok.end = c.in-Ok.ensures.found.0 in
+    let last : StandsIf ran f c.args.last = stands_if_later m old f ran c.args.last l c.requires.last in
+    let end : HasCompletion ran c.in-Ok.end = c.in-Ok.ensures.found.0 in
     search (rules, base, there, node, empty, last, end)
 
-pub handled-returns-in-Ok-clause-later : goal.tries::handled-returns-in-Ok-clause-later
-handled-returns-in-Ok-clause-later g t c =
-    later_then g.S.WorldStore.meaning c.args.config.now c.in_scope.new.config c.lastly.new.config c.lastly.result c.in-Ok.ensures.later c.lastly.ensures.later
-
-pub handled-returns-in-Ok-clause-does : goal.tries::handled-returns-in-Ok-clause-does
-handled-returns-in-Ok-clause-does g t c =
+pub catch-returns-in-Ok-clause-later : goal.tries::catch-returns-in-Ok-clause-later
+catch-returns-in-Ok-clause-later g t c =
     let m = g.S.WorldStore.meaning in
     let old = c.args.config.now in
+    let late = c.write.new.config in
+    let ran = c.in_scope.new.config in
+    later_then m old ran c.lastly.new.config c.lastly.result (later_twice m old late ran (later_twice m old c.create_scope.new.config late c.in_ok-scope.ensures.later c.in_ok-write.ensures.later) c.in-Ok.ensures.later) c.lastly.ensures.later
+
+pub catch-returns-in-Ok-clause-does : goal.tries::catch-returns-in-Ok-clause-does
+catch-returns-in-Ok-clause-does g t c =
+    let m = g.S.WorldStore.meaning in
     let f = c.args.frame.now in
-    let mid = c.in_scope.new.config in
+    let late = c.write.new.config in
     let new = c.lastly.new.config in
+    let block = c.args.handler.block in
+    let scope = c.in_ok-scope.scope in
     let k = c.lastly.new.stops in
-    handled_does m old new f c.args.block c.args.scope c.args.last c.lastly.result k.waits k.top
-    (ended_then m old mid new f (goal_here m old (record f { scope = c.args.scope }) (AtStmt c.args.block.0)) (λ t env. statements.try_finally (number c.args.last) env) c.args.node [] (points.Stmt (stmt.TryHandler c.args.last)) c.in-Ok.end c.lastly.result k.waits k.top
-    c.in-Ok.ensures.later c.in-Ok.ensures.does c.lastly.ensures.does)
+    catch_does m c.args.config.now c.create_scope.new.config late new f c.args.handler c.args.last c.args.error scope c.scope.result c.name_of-name.result c.lastly.result k.waits k.top c.scope.ensures
+    c.in_ok-scope.ensures.does c.in_ok-scope.ensures.later c.name_of-name.ensures.name c.in_ok-write.ensures.does c.in_ok-write.ensures.later
+    (handled_does m late new f block scope c.args.last c.lastly.result k.waits k.top
+    (ended_then m late c.in_scope.new.config new f (goal_here m late (record f { scope = scope }) (AtStmt block.0)) (λ t env. statements.try_finally (number c.args.last) env) c.args.node [] (points.Stmt (stmt.TryHandler c.args.last)) c.in-Ok.end c.lastly.result k.waits k.top
+    c.in-Ok.ensures.later c.in-Ok.ensures.does c.lastly.ensures.does))
 
-pub handled-returns-in-Err-clause-later : goal.tries::handled-returns-in-Err-clause-later
-handled-returns-in-Err-clause-later g t c =
+pub catch-returns-in-Err-clause-later : goal.tries::catch-returns-in-Err-clause-later
+catch-returns-in-Err-clause-later g t c =
     let m = g.S.WorldStore.meaning in
+    let old = c.args.config.now in
+    let late = c.write.new.config in
+    let new = c.waits.new.config in
     let s = c.in_scope.new.stops in
     let k = c.waits.new.stops in
-    broke_later m Completion Completion c.args.config.now c.in_scope.new.config c.waits.new.config c.args.frame.now c.args.node [] (points.Stmt (stmt.TryHandler c.args.last)) c.in-Err.end s.waits s.top c.waits.result k.waits k.top
-    c.waits.ensures.same c.waits.ensures.waits c.in-Err.ensures.later
+    later_then m {A = Completion} old late new (Err c.waits.result) (later_twice m old c.create_scope.new.config late c.in_ok-scope.ensures.later c.in_ok-write.ensures.later)
+    (broke_later m Completion Completion late c.in_scope.new.config new c.args.frame.now c.args.node [] (points.Stmt (stmt.TryHandler c.args.last)) c.in-Err.end s.waits s.top c.waits.result k.waits k.top
+    c.waits.ensures.same c.waits.ensures.waits c.in-Err.ensures.later)
 
-pub handled-returns-in-Err-clause-found : goal.tries::handled-returns-in-Err-clause-found
-handled-returns-in-Err-clause-found g t c =
-    let m = g.S.WorldStore.meaning in
-    let s = c.in_scope.new.stops in
-    let k = c.waits.new.stops in
-    broke_found m Completion Completion c.args.config.now c.in_scope.new.config c.waits.new.config c.args.frame.now c.args.node [] (points.Stmt (stmt.TryHandler c.args.last)) c.in-Err.end s.waits s.top c.waits.result k.waits k.top
-    c.waits.ensures.same c.waits.ensures.waits c.in-Err.ensures.later c.requires.there c.requires.node tt (if_here m c.args.config.now c.args.frame.now c.args.node c.args.last c.requires.last) c.in-Err.ensures.found
-
-pub handled-returns-in-Err-clause-does : goal.tries::handled-returns-in-Err-clause-does
-handled-returns-in-Err-clause-does g t c =
+pub catch-returns-in-Err-clause-found : goal.tries::catch-returns-in-Err-clause-found
+catch-returns-in-Err-clause-found g t c =
     let m = g.S.WorldStore.meaning in
     let old = c.args.config.now in
     let f = c.args.frame.now in
-    let mid = c.in_scope.new.config in
+    let late = c.write.new.config in
     let s = c.in_scope.new.stops in
     let k = c.waits.new.stops in
-    handled_does m old c.waits.new.config f c.args.block c.args.scope c.args.last (Err c.waits.result) k.waits k.top
-    (stood_does m old mid c.waits.new.config f (goal_here m old (record f { scope = c.args.scope }) (AtStmt c.args.block.0)) (λ t env. statements.try_finally (number c.args.last) env) c.args.node [] (points.Stmt (stmt.TryHandler c.args.last)) c.in-Err.end s.waits s.top c.waits.result k.waits k.top
-    c.waits.ensures.same c.in-Err.ensures.caught (λ l t env. refl) c.in-Err.ensures.later c.in-Err.ensures.does c.waits.ensures.waits)
+    let all = later_twice m old c.create_scope.new.config late c.in_ok-scope.ensures.later c.in_ok-write.ensures.later in
+    broke_found m Completion Completion late c.in_scope.new.config c.waits.new.config f c.args.node [] (points.Stmt (stmt.TryHandler c.args.last)) c.in-Err.end s.waits s.top c.waits.result k.waits k.top
+    c.waits.ensures.same c.waits.ensures.waits c.in-Err.ensures.later (all.frames f c.requires.there) (stands_later m old f late c.args.node all c.requires.node) tt
+    (if_here m late f c.args.node c.args.last (stands_if_later m old f late c.args.last all c.requires.last)) c.in-Err.ensures.found
+
+pub catch-returns-in-Err-clause-does : goal.tries::catch-returns-in-Err-clause-does
+catch-returns-in-Err-clause-does g t c =
+    let m = g.S.WorldStore.meaning in
+    let f = c.args.frame.now in
+    let late = c.write.new.config in
+    let new = c.waits.new.config in
+    let block = c.args.handler.block in
+    let scope = c.in_ok-scope.scope in
+    let s = c.in_scope.new.stops in
+    let k = c.waits.new.stops in
+    catch_does m c.args.config.now c.create_scope.new.config late new f c.args.handler c.args.last c.args.error scope c.scope.result c.name_of-name.result (Err c.waits.result) k.waits k.top c.scope.ensures
+    c.in_ok-scope.ensures.does c.in_ok-scope.ensures.later c.name_of-name.ensures.name c.in_ok-write.ensures.does c.in_ok-write.ensures.later
+    (handled_does m late new f block scope c.args.last (Err c.waits.result) k.waits k.top
+    (stood_does m late c.in_scope.new.config new f (goal_here m late (record f { scope = scope }) (AtStmt block.0)) (λ t env. statements.try_finally (number c.args.last) env) c.args.node [] (points.Stmt (stmt.TryHandler c.args.last)) c.in-Err.end s.waits s.top c.waits.result k.waits k.top
+    c.waits.ensures.same c.in-Err.ensures.caught (λ l t env. refl) c.in-Err.ensures.later c.in-Err.ensures.does c.waits.ensures.waits))
 
 -- in a frame of its own
 
@@ -357,61 +373,64 @@ in_scope-returns-clause-does g t c =
 
 -- `finally`
 
-pub lastly-finish_by-requires : goal.tries::lastly-finish_by-requires
-lastly-finish_by-requires g t c =
+pub lastly-statement-requires : goal.tries::lastly-statement-requires
+lastly-statement-requires g t c =
     let part : StandsHere c.args.config.now c.args.frame.now c.in-Some.s = subst (λ (o : Option NodeId). StandsIf c.args.config.now c.args.frame.now o) c.in-Some.is c.requires.last in
     search (rules, part)
 
-pub lastly-returns-in-Some-clause-does : goal.tries::lastly-returns-in-Some-clause-does
-lastly-returns-in-Some-clause-does g t c =
+pub lastly-returns-in-Ok-clause-does : goal.tries::lastly-returns-in-Ok-clause-does
+lastly-returns-in-Ok-clause-does g t c =
     let m = g.S.WorldStore.meaning in
     let old = c.args.config.now in
     let f = c.args.frame.now in
-    let k = c.finish_by.new.stops in
-    line_form m completion_in old c.finish_by.new.config f (λ t env. statements.try_finally (number c.args.last) env (completion_in t c.args.end)) c.finish_by.result k.waits k.top (AtStmt c.in-Some.s.0)
-    (λ t env. statements.finally_done (completion_in t c.args.end))
-    (λ t more. ap (λ (o : Option NodeId). statements.try_finally (number o) (env_in m old t f) (completion_in t c.args.end)) c.in-Some.is) c.finish_by.ensures.does
+    let new = c.statement.new.config in
+    let end = c.args.end in
+    let s = c.statement.new.stops in
+    line_form m completion_in old new f (λ t env. statements.try_finally (number c.args.last) env (completion_in t end)) (Ok c.last_end.result) s.waits s.top (AtStmt c.in-Some.s.0) (λ t env. statements.finally_done (completion_in t end))
+    (λ t more. ap (λ (o : Option NodeId). statements.try_finally (number o) (env_in m old t f) (completion_in t end)) c.in-Some.is)
+    (form_ends m completion_in completion_in old new f (AtStmt c.in-Some.s.0) (λ t env. statements.finally_done (completion_in t end)) c.in-Ok.after c.last_end.result s.waits s.top s.waits s.top
+    c.in-Ok.ensures.later c.in-Ok.ensures.does (λ t env. last_is t end c.in-Ok.after ∙ ap (λ (e : Completion). Ret (completion_in t e)) (sym c.last_end.ensures)))
+
+pub lastly-returns-in-Ok-clause-found : goal.tries::lastly-returns-in-Ok-clause-found
+lastly-returns-in-Ok-clause-found g t c =
+    let new = c.statement.new.config in (
+      subst (λ (e : Completion). HasCompletion new e) (sym c.last_end.ensures)
+          (last_there new c.args.end c.in-Ok.after (c.in-Ok.ensures.later.completions c.args.end c.requires.end) c.in-Ok.ensures.found.0),
+      c.in-Ok.ensures.found.1,
+    )
+
+pub lastly-returns-in-Err-clause-later : goal.tries::lastly-returns-in-Err-clause-later
+lastly-returns-in-Err-clause-later g t c =
+    let m = g.S.WorldStore.meaning in
+    let s = c.statement.new.stops in
+    let k = c.waits_holding.new.stops in
+    broke_later m Completion Completion c.args.config.now c.statement.new.config c.waits_holding.new.config c.args.frame.now c.args.node (holds.Earlier c.args.end ∷ []) (points.Stmt stmt.TryFinally) c.in-Err.broken s.waits s.top c.waits_holding.result k.waits k.top
+    c.waits_holding.ensures.same c.waits_holding.ensures.waits c.in-Err.ensures.later
+
+pub lastly-returns-in-Err-clause-found : goal.tries::lastly-returns-in-Err-clause-found
+lastly-returns-in-Err-clause-found g t c =
+    let m = g.S.WorldStore.meaning in
+    let s = c.statement.new.stops in
+    let k = c.waits_holding.new.stops in
+    broke_found m Completion Completion c.args.config.now c.statement.new.config c.waits_holding.new.config c.args.frame.now c.args.node (holds.Earlier c.args.end ∷ []) (points.Stmt stmt.TryFinally) c.in-Err.broken s.waits s.top c.waits_holding.result k.waits k.top
+    c.waits_holding.ensures.same c.waits_holding.ensures.waits c.in-Err.ensures.later c.requires.there c.requires.node (c.requires.end, tt) tt c.in-Err.ensures.found
+
+pub lastly-returns-in-Err-clause-does : goal.tries::lastly-returns-in-Err-clause-does
+lastly-returns-in-Err-clause-does g t c =
+    let m = g.S.WorldStore.meaning in
+    let old = c.args.config.now in
+    let f = c.args.frame.now in
+    let new = c.waits_holding.new.config in
+    let end = c.args.end in
+    let s = c.statement.new.stops in
+    let k = c.waits_holding.new.stops in
+    line_form m completion_in old new f (λ t env. statements.try_finally (number c.args.last) env (completion_in t end)) (Err c.waits_holding.result) k.waits k.top (AtStmt c.in-Some.s.0) (λ t env. statements.finally_done (completion_in t end))
+    (λ t more. ap (λ (o : Option NodeId). statements.try_finally (number o) (env_in m old t f) (completion_in t end)) c.in-Some.is)
+    (broke_does m Completion Completion old c.statement.new.config new f c.args.node (holds.Earlier end ∷ []) (points.Stmt stmt.TryFinally) c.in-Err.broken s.waits s.top c.waits_holding.result k.waits k.top
+    c.waits_holding.ensures.same c.waits_holding.ensures.waits completion_in completion_in (AtStmt c.in-Some.s.0) (λ t env. statements.finally_done (completion_in t end)) (λ l t env. refl) (λ t env e. refl) c.in-Err.ensures.later c.in-Err.ensures.does)
 
 pub lastly-returns-in-None-clause-does : goal.tries::lastly-returns-in-None-clause-does
 lastly-returns-in-None-clause-does g t c =
     let s = c.args.stops.now in
     line_ended g.S.WorldStore.meaning completion_in c.args.config.now c.args.frame.now (λ t env. statements.try_finally (number c.args.last) env (completion_in t c.args.end)) c.args.end s.waits s.top
     (λ t more env. shorten_as _ _ (ap (λ (o : Option NodeId). statements.try_finally (number o) env (completion_in t c.args.end)) c.in-None.is))
-
-pub finish_by-returns-in-Ok-clause-does : goal.tries::finish_by-returns-in-Ok-clause-does
-finish_by-returns-in-Ok-clause-does g t c =
-    let s = c.statement.new.stops in
-    form_ends g.S.WorldStore.meaning completion_in completion_in c.args.config.now c.statement.new.config c.args.frame.now (AtStmt c.args.s.0) (λ t env. statements.finally_done (completion_in t c.args.earlier)) c.in-Ok.end c.last_end.result s.waits s.top s.waits s.top
-    c.in-Ok.ensures.later c.in-Ok.ensures.does (λ t env. last_is t c.args.earlier c.in-Ok.end ∙ ap (λ (e : Completion). Ret (completion_in t e)) (sym c.last_end.ensures))
-
-pub finish_by-returns-in-Ok-clause-found : goal.tries::finish_by-returns-in-Ok-clause-found
-finish_by-returns-in-Ok-clause-found g t c =
-    let new = c.statement.new.config in (
-      subst (λ (e : Completion). HasCompletion new e) (sym c.last_end.ensures)
-          (last_there new c.args.earlier c.in-Ok.end (c.in-Ok.ensures.later.completions c.args.earlier c.requires.earlier) c.in-Ok.ensures.found.0),
-      c.in-Ok.ensures.found.1,
-    )
-
-pub finish_by-returns-in-Err-clause-later : goal.tries::finish_by-returns-in-Err-clause-later
-finish_by-returns-in-Err-clause-later g t c =
-    let m = g.S.WorldStore.meaning in
-    let s = c.statement.new.stops in
-    let k = c.waits_holding.new.stops in
-    broke_later m Completion Completion c.args.config.now c.statement.new.config c.waits_holding.new.config c.args.frame.now c.args.node (holds.Earlier c.args.earlier ∷ []) (points.Stmt stmt.TryFinally) c.in-Err.end s.waits s.top c.waits_holding.result k.waits k.top
-    c.waits_holding.ensures.same c.waits_holding.ensures.waits c.in-Err.ensures.later
-
-pub finish_by-returns-in-Err-clause-found : goal.tries::finish_by-returns-in-Err-clause-found
-finish_by-returns-in-Err-clause-found g t c =
-    let m = g.S.WorldStore.meaning in
-    let s = c.statement.new.stops in
-    let k = c.waits_holding.new.stops in
-    broke_found m Completion Completion c.args.config.now c.statement.new.config c.waits_holding.new.config c.args.frame.now c.args.node (holds.Earlier c.args.earlier ∷ []) (points.Stmt stmt.TryFinally) c.in-Err.end s.waits s.top c.waits_holding.result k.waits k.top
-    c.waits_holding.ensures.same c.waits_holding.ensures.waits c.in-Err.ensures.later c.requires.there c.requires.node (c.requires.earlier, tt) tt c.in-Err.ensures.found
-
-pub finish_by-returns-in-Err-clause-does : goal.tries::finish_by-returns-in-Err-clause-does
-finish_by-returns-in-Err-clause-does g t c =
-    let m = g.S.WorldStore.meaning in
-    let s = c.statement.new.stops in
-    let k = c.waits_holding.new.stops in
-    broke_does m Completion Completion c.args.config.now c.statement.new.config c.waits_holding.new.config c.args.frame.now c.args.node (holds.Earlier c.args.earlier ∷ []) (points.Stmt stmt.TryFinally) c.in-Err.end s.waits s.top c.waits_holding.result k.waits k.top
-    c.waits_holding.ensures.same c.waits_holding.ensures.waits completion_in completion_in (AtStmt c.args.s.0) (λ t env. statements.finally_done (completion_in t c.args.earlier)) (λ l t env. refl) (λ t env e. refl) c.in-Err.ensures.later c.in-Err.ensures.does

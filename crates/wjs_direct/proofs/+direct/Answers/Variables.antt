@@ -1,5 +1,5 @@
 -- What holds of the functions of `variables`.
-use Rattle.std.proofs.Common.{◌≡◌, ◌+◌, rules, [], Some, refl, ap, sym}
+use Rattle.std.proofs.Common.{◌≡◌, ◌+◌, rules, [], refl, ap, sym}
 use Rattle.std.specs.Prelude.{Err}
 use Rattle.wjs_base.specs.Text.{Has, Table}
 use Rattle.wjs_base.proofs.TextLaws.{Grows-Has}
@@ -11,7 +11,7 @@ use Rattle.wjs_meaning.specs.Reading.{number}
 use Rattle.wjs_meaning.specs.Loops as loops
 use Rattle.wjs_model.specs.declared.frame.Completion.{Completion}
 use Rattle.wjs_model.specs.Contents.{completion_in}
-use Rattle.wjs_model.specs.Soundness.{Base, HasCompletion, IsThere, StandsHere, StandsIf}
+use Rattle.wjs_model.specs.Soundness.{Base, IsThere, StandsHere, StandsIf}
 use Rattle.wjs_model.specs.declared.point.Point.TheVariants as points
 use Rattle.wjs_model.specs.declared.point.StmtPoint.TheVariants as stmt
 use Rattle.wjs_frames.specs.Parts.{env_in}
@@ -22,15 +22,16 @@ use Rattle.wjs_effects.proofs.StandingFors.{for_stands}
 use Rattle.wjs_stopping.specs.Ends.{gives_in}
 use Rattle.wjs_stopping.specs.Evaluating.{outcome_in}
 use Rattle.wjs_stopping.specs.Waiting.{at_node}
-use Rattle.wjs_direct.specs.Deeds.{line_here, form_here}
+use Rattle.wjs_direct_lines.specs.Deeds.{line_here, form_here}
 use Rattle.wjs_stopping.proofs.Evaluating.{in_memory, leaves_all}
-use Rattle.wjs_direct.proofs.Forming.{line_ended, node_there}
-use Rattle.wjs_direct.proofs.Parts.{broke_does, broke_found, broke_later, later_then, line_as}
-use Rattle.wjs_direct.proofs.Elements.{not_normal}
-use Rattle.wjs_direct.proofs.Declaring.{all_passed, declares_later, for_variables_then, nested_broke, nested_left, next_broke, next_ended, next_passed, value_next, value_waits, variable_begins, variable_passed, variable_stands}
-use Rattle.wjs_direct.proofs.Looping.{comes_behind, if_stands, round_is, round_later}
+use Rattle.wjs_direct_lines.proofs.Forming.{line_ended, node_there}
+use Rattle.wjs_direct_lines.proofs.Parts.{broke_does, broke_found, broke_later, later_then, line_as}
+use Rattle.wjs_direct_lines.proofs.Elements.{not_normal}
+use Rattle.wjs_direct_lines.proofs.Declaring.{all_passed, declares_later, for_variables_then, nested_broke, nested_left, next_broke, next_ended, next_passed, value_next, value_waits, variable_begins, variable_passed, variable_stands}
+use Rattle.wjs_direct_lines.proofs.Nesting.{comes_behind, if_stands}
+use Rattle.wjs_direct.proofs.Looping.{round_is, round_later}
 use Rattle.wjs_direct.specs.Rounds.{IsLoop, loop_round}
-use Rattle.wjs_direct.specs.Variables.{Declares, variable_valued, variables_left}
+use Rattle.wjs_direct_lines.specs.Variables.{Declares, variable_valued, variables_left}
 use Rattle.wjs_direct.proofs.+direct.Goals as goal
 
 -- ---- variables
@@ -101,39 +102,16 @@ run_variables-returns-clause-does g t c =
 
 -- one of them
 
-pub declared-initialised-requires : goal.variables::declared-initialised-requires
-declared-initialised-requires g t c =
-    let some : c.args.variable.value ≡ Some c.in-Some.e = c.in-Some.is in
-    search (rules, some)
-
-pub declared-returns-in-Some-clause-does : goal.variables::declared-returns-in-Some-clause-does
-declared-returns-in-Some-clause-does g t c =
+pub declared-value-requires : goal.variables::declared-value-requires
+declared-value-requires g t c =
     let m = g.S.WorldStore.meaning in
     let old = c.args.config.now in
     let f = c.args.frame.now in
-    let x = c.args.variable in
-    let e = c.in-Some.e in
-    let k = c.initialised.new.stops in
-    comes_behind m (line_here m old f (variables_left old f c.args.node c.args.at)) (form_here m old f (AtExpr e.0) (λ t env. then_value (variable_valued old f c.args.node c.args.at t env)))
-    (λ (end : Completion). line_here m old f (λ t env. then_normal (variables_left old f c.args.node (c.args.at + 1) t env) (completion_in t end))) c.initialised.result k.waits k.top old old c.initialised.new.config
-    (variable_begins m f c.args.node old c.args.at x c.requires.is e c.in-Some.is) c.initialised.ensures.does
-
-pub declared-returns-in-None-clause-does : goal.variables::declared-returns-in-None-clause-does
-declared-returns-in-None-clause-does g t c =
-    variable_passed g.S.WorldStore.meaning c.args.frame.now c.args.node c.args.config.now c.args.at c.args.variable c.requires.is c.in-None.is
-
--- its value
-
-pub initialised-value-requires : goal.variables::initialised-value-requires
-initialised-value-requires g t c =
-    let m = g.S.WorldStore.meaning in
-    let old = c.args.config.now in
-    let f = c.args.frame.now in
-    let node : StandsHere old f c.args.e = variable_stands m f c.args.node old c.args.at c.args.variable c.requires.is c.args.e c.requires.initialiser c.requires.there c.requires.node in
+    let node : StandsHere old f c.in-Some.e = variable_stands m f c.args.node old c.args.at c.args.variable c.requires.is c.in-Some.e c.in-Some.is c.requires.there c.requires.node in
     search (rules, node)
 
-pub initialised-variable_stored-requires : goal.variables::initialised-variable_stored-requires
-initialised-variable_stored-requires g t c =
+pub declared-variable_stored-requires : goal.variables::declared-variable_stored-requires
+declared-variable_stored-requires g t c =
     let m = g.S.WorldStore.meaning in
     let old = c.args.config.now in
     let f = c.args.frame.now in
@@ -148,46 +126,70 @@ initialised-variable_stored-requires g t c =
       value = c.in-Ok.ensures.found.0;
     }
 
-pub initialised-returns-in-Ok-clause-later : goal.variables::initialised-returns-in-Ok-clause-later
-initialised-returns-in-Ok-clause-later g t c =
+pub declared-returns-in-Ok-clause-later : goal.variables::declared-returns-in-Ok-clause-later
+declared-returns-in-Ok-clause-later g t c =
     later_then g.S.WorldStore.meaning c.args.config.now c.value.new.config c.variable_stored.new.config c.variable_stored.result c.in-Ok.ensures.later c.variable_stored.ensures.later
 
-pub initialised-returns-in-Ok-clause-does : goal.variables::initialised-returns-in-Ok-clause-does
-initialised-returns-in-Ok-clause-does g t c =
+pub declared-returns-in-Ok-clause-does : goal.variables::declared-returns-in-Ok-clause-does
+declared-returns-in-Ok-clause-does g t c =
+    let m = g.S.WorldStore.meaning in
+    let old = c.args.config.now in
+    let mid = c.value.new.config in
+    let new = c.variable_stored.new.config in
+    let f = c.args.frame.now in
     let k = c.variable_stored.new.stops in
-    value_next g.S.WorldStore.meaning c.args.frame.now c.args.node c.args.config.now c.value.new.config c.variable_stored.new.config c.args.at c.args.e c.in-Ok.value c.variable_stored.result k.waits k.top
-    c.in-Ok.ensures.later c.in-Ok.ensures.does c.variable_stored.ensures.does
+    let x = c.args.variable in
+    let e = c.in-Some.e in
+    let act : Table → Env → Act = variables_left old f c.args.node c.args.at in
+    let next : Table → Env → Meant → Act = λ t env. then_value (variable_valued old f c.args.node c.args.at t env) in
+    let left : Completion → Table → (Meant → Act) → Act = λ end. line_here m old f (λ t env. then_normal (variables_left old f c.args.node (c.args.at + 1) t env) (completion_in t end)) in
+    comes_behind m (line_here m old f act) (form_here m old f (AtExpr e.0) next) left c.variable_stored.result k.waits k.top old old new
+    (variable_begins m f c.args.node old c.args.at x c.requires.is e c.in-Some.is)
+    (value_next m f c.args.node old mid new c.args.at e c.in-Ok.value c.variable_stored.result k.waits k.top
+    c.in-Ok.ensures.later c.in-Ok.ensures.does c.variable_stored.ensures.does)
 
-pub initialised-returns-in-Err-clause-later : goal.variables::initialised-returns-in-Err-clause-later
-initialised-returns-in-Err-clause-later g t c =
+pub declared-returns-in-Err-clause-later : goal.variables::declared-returns-in-Err-clause-later
+declared-returns-in-Err-clause-later g t c =
     let s = c.value.new.stops in
     let k = c.waits.new.stops in
     broke_later g.S.WorldStore.meaning Value Completion c.args.config.now c.value.new.config c.waits.new.config c.args.frame.now c.args.node [] (points.Stmt (stmt.VariableValue c.args.at)) c.in-Err.end s.waits s.top c.waits.result k.waits k.top
     c.waits.ensures.same c.waits.ensures.waits c.in-Err.ensures.later
 
-pub initialised-returns-in-Err-clause-found : goal.variables::initialised-returns-in-Err-clause-found
-initialised-returns-in-Err-clause-found g t c =
+pub declared-returns-in-Err-clause-found : goal.variables::declared-returns-in-Err-clause-found
+declared-returns-in-Err-clause-found g t c =
     let s = c.value.new.stops in
     let k = c.waits.new.stops in
     broke_found g.S.WorldStore.meaning Value Completion c.args.config.now c.value.new.config c.waits.new.config c.args.frame.now c.args.node [] (points.Stmt (stmt.VariableValue c.args.at)) c.in-Err.end s.waits s.top c.waits.result k.waits k.top
     c.waits.ensures.same c.waits.ensures.waits c.in-Err.ensures.later c.requires.there c.requires.node tt tt c.in-Err.ensures.found
 
-pub initialised-returns-in-Err-clause-does : goal.variables::initialised-returns-in-Err-clause-does
-initialised-returns-in-Err-clause-does g t c =
+pub declared-returns-in-Err-clause-does : goal.variables::declared-returns-in-Err-clause-does
+declared-returns-in-Err-clause-does g t c =
     let m = g.S.WorldStore.meaning in
     let old = c.args.config.now in
     let mid = c.value.new.config in
+    let new = c.waits.new.config in
     let f = c.args.frame.now in
     let s = c.value.new.stops in
     let k = c.waits.new.stops in
-    broke_does m Value Completion old mid c.waits.new.config f c.args.node [] (points.Stmt (stmt.VariableValue c.args.at)) c.in-Err.end s.waits s.top c.waits.result k.waits k.top
-    c.waits.ensures.same c.waits.ensures.waits gives_in completion_in (AtExpr c.args.e.0) (λ t env. then_value (variable_valued old f c.args.node c.args.at t env))
-    (value_waits m f c.args.node old mid c.args.at) (λ t env e. refl) c.in-Err.ensures.later c.in-Err.ensures.does
+    let x = c.args.variable in
+    let e = c.in-Some.e in
+    let act : Table → Env → Act = variables_left old f c.args.node c.args.at in
+    let next : Table → Env → Meant → Act = λ t env. then_value (variable_valued old f c.args.node c.args.at t env) in
+    let left : Completion → Table → (Meant → Act) → Act = λ end. line_here m old f (λ t env. then_normal (variables_left old f c.args.node (c.args.at + 1) t env) (completion_in t end)) in
+    comes_behind m (line_here m old f act) (form_here m old f (AtExpr e.0) next) left (Err c.waits.result) k.waits k.top old old new
+    (variable_begins m f c.args.node old c.args.at x c.requires.is e c.in-Some.is)
+    (broke_does m Value Completion old mid new f c.args.node [] (points.Stmt (stmt.VariableValue c.args.at)) c.in-Err.end s.waits s.top c.waits.result k.waits k.top
+    c.waits.ensures.same c.waits.ensures.waits gives_in completion_in (AtExpr e.0) next
+    (value_waits m f c.args.node old mid c.args.at) (λ t env e. refl) c.in-Err.ensures.later c.in-Err.ensures.does)
+
+pub declared-returns-in-None-clause-does : goal.variables::declared-returns-in-None-clause-does
+declared-returns-in-None-clause-does g t c =
+    variable_passed g.S.WorldStore.meaning c.args.frame.now c.args.node c.args.config.now c.args.at c.args.variable c.requires.is c.in-None.is
 
 -- a `for` that begins with them
 
-pub for_variables-for_declared-requires : goal.variables::for_variables-for_declared-requires
-for_variables-for_declared-requires g t c =
+pub for_variables-run_loop-requires : goal.variables::for_variables-run_loop-requires
+for_variables-run_loop-requires g t c =
     let m = g.S.WorldStore.meaning in
     let old = c.args.config.now in
     let f = c.args.frame.now in
@@ -203,25 +205,50 @@ for_variables-for_declared-requires g t c =
     let test : StandsIf mid f c.args.test = stands_if_later m old f mid c.args.test l (if_stands m old f c.args.node c.args.test parts.0) in
     let update : StandsIf mid f c.args.update = stands_if_later m old f mid c.args.update l (if_stands m old f c.args.node c.args.update parts.1.0) in
     let body : StandsHere mid f c.args.body = stands_later m old f mid c.args.body l parts.1.1 in
-    let end : HasCompletion mid c.in-Ok.end = c.in-Ok.ensures.found.0 in
-    search (rules, base, there, node, empty, is, test, update, body, end)
+    search (rules, base, there, node, empty, is, test, update, body)
 
-pub for_variables-returns-in-Ok-clause-later : goal.variables::for_variables-returns-in-Ok-clause-later
-for_variables-returns-in-Ok-clause-later g t c =
-    later_then g.S.WorldStore.meaning c.args.config.now c.run_variables.new.config c.for_declared.new.config c.for_declared.result c.in-Ok.ensures.later c.for_declared.ensures.later
+pub for_variables-returns-in-Normal-clause-later : goal.variables::for_variables-returns-in-Normal-clause-later
+for_variables-returns-in-Normal-clause-later g t c =
+    later_then g.S.WorldStore.meaning c.args.config.now c.run_variables.new.config c.run_loop.new.config c.run_loop.result c.in-Ok.ensures.later c.run_loop.ensures.later
 
-pub for_variables-returns-in-Ok-clause-does : goal.variables::for_variables-returns-in-Ok-clause-does
-for_variables-returns-in-Ok-clause-does g t c =
+pub for_variables-returns-in-Normal-clause-does : goal.variables::for_variables-returns-in-Normal-clause-does
+for_variables-returns-in-Normal-clause-does g t c =
     let m = g.S.WorldStore.meaning in
     let old = c.args.config.now in
     let mid = c.run_variables.new.config in
     let f = c.args.frame.now in
-    let k = c.for_declared.new.stops in
-    let next : Table → Env → Meant → Act = λ t env. then_normal (loops.loop_from c.args.node.0 (number c.args.test) (number c.args.update) c.args.body.0 env) in
+    let new = c.run_loop.new.config in
+    let k = c.run_loop.new.stops in
+    let loop : Env → Act = λ env. loops.loop_from c.args.node.0 (number c.args.test) (number c.args.update) c.args.body.0 env in
+    let next : Table → Env → Meant → Act = λ t env. then_normal (loop env) in
     let from = line_here m old f (λ t env. Sub (variables_left old f c.args.node 0 t env) (next t env)) in
     let behind = line_here m mid f (λ t env. next t env (completion_in t c.in-Ok.end)) in
-    in_memory c.for_declared.result (leaves_all m from behind (outcome_in m c.for_declared.new.config completion_in c.for_declared.result k.waits k.top) old mid c.for_declared.new.config
-    (nested_left m completion_in old mid f (variables_left old f c.args.node 0) next c.in-Ok.end c.in-Ok.ensures.later c.in-Ok.ensures.does)) c.for_declared.ensures.does
+    in_memory c.run_loop.result (leaves_all m from behind (outcome_in m new completion_in c.run_loop.result k.waits k.top) old mid new
+    (nested_left m completion_in old mid f (variables_left old f c.args.node 0) next c.in-Ok.end c.in-Ok.ensures.later c.in-Ok.ensures.does))
+    (line_as m completion_in mid new f (λ t env. then_normal (loop env) (completion_in t c.in-Ok.end)) c.run_loop.result k.waits k.top (λ t env. loop env)
+    (λ t more. ap (λ (e : Completion). then_normal (loop (env_in m mid t f)) (completion_in t e)) c.in-Normal.is) c.run_loop.ensures.does)
+
+pub for_variables-returns-in_default-clause-later : goal.variables::for_variables-returns-in_default-clause-later
+for_variables-returns-in_default-clause-later g t c = c.in-Ok.ensures.later
+
+pub for_variables-returns-in_default-clause-found : goal.variables::for_variables-returns-in_default-clause-found
+for_variables-returns-in_default-clause-found g t c = c.in-Ok.ensures.found
+
+pub for_variables-returns-in_default-clause-does : goal.variables::for_variables-returns-in_default-clause-does
+for_variables-returns-in_default-clause-does g t c =
+    let m = g.S.WorldStore.meaning in
+    let old = c.args.config.now in
+    let mid = c.run_variables.new.config in
+    let f = c.args.frame.now in
+    let s = c.run_variables.new.stops in
+    let loop : Env → Act = λ env. loops.loop_from c.args.node.0 (number c.args.test) (number c.args.update) c.args.body.0 env in
+    let next : Table → Env → Meant → Act = λ t env. then_normal (loop env) in
+    let from = line_here m old f (λ t env. Sub (variables_left old f c.args.node 0 t env) (next t env)) in
+    let behind = line_here m mid f (λ t env. next t env (completion_in t c.in-Ok.end)) in
+    leaves_all m from behind (λ t go. go (completion_in t c.in-Ok.end)) old mid mid
+    (nested_left m completion_in old mid f (variables_left old f c.args.node 0) next c.in-Ok.end c.in-Ok.ensures.later c.in-Ok.ensures.does)
+    (line_ended m completion_in mid f (λ t env. then_normal (loop env) (completion_in t c.in-Ok.end)) c.in-Ok.end s.waits s.top
+    (λ t more env. shorten_as _ _ (not_normal t c.in-Ok.end (loop env) c.in_default.not-Normal)))
 
 pub for_variables-returns-in-Err-clause-later : goal.variables::for_variables-returns-in-Err-clause-later
 for_variables-returns-in-Err-clause-later g t c =
@@ -247,19 +274,3 @@ for_variables-returns-in-Err-clause-does g t c =
     let k = c.waits.new.stops in
     nested_broke m completion_in old mid f (variables_left old f c.args.node 0) (λ t env. then_normal (loops.loop_from c.args.node.0 (number c.args.test) (number c.args.update) c.args.body.0 env)) completion_in c.waits.new.config c.args.node [] (points.Stmt stmt.ForVariables)
     c.in-Err.end s.waits s.top c.waits.result k.waits k.top c.waits.ensures.same c.waits.ensures.waits (for_variables_then m old mid f c.args.node c.requires.is.0 c.args.test c.args.update c.args.body c.requires.is.1) (λ t env e. refl) c.in-Err.ensures.later c.in-Err.ensures.does
-
-pub for_declared-returns-in-Normal-clause-does : goal.variables::for_declared-returns-in-Normal-clause-does
-for_declared-returns-in-Normal-clause-does g t c =
-    let m = g.S.WorldStore.meaning in
-    let old = c.args.config.now in
-    let k = c.run_loop.new.stops in
-    let loop : Env → Act = λ env. loops.loop_from c.args.node.0 (number c.args.test) (number c.args.update) c.args.body.0 env in
-    line_as m completion_in old c.run_loop.new.config c.args.frame.now (λ t env. then_normal (loop env) (completion_in t c.args.end)) c.run_loop.result k.waits k.top (λ t env. loop env)
-    (λ t more. ap (λ (e : Completion). then_normal (loop (env_in m old t c.args.frame.now)) (completion_in t e)) c.in-Normal.is) c.run_loop.ensures.does
-
-pub for_declared-returns-in_default-clause-does : goal.variables::for_declared-returns-in_default-clause-does
-for_declared-returns-in_default-clause-does g t c =
-    let s = c.args.stops.now in
-    let loop : Env → Act = λ env. loops.loop_from c.args.node.0 (number c.args.test) (number c.args.update) c.args.body.0 env in
-    line_ended g.S.WorldStore.meaning completion_in c.args.config.now c.args.frame.now (λ t env. then_normal (loop env) (completion_in t c.args.end)) c.args.end s.waits s.top
-    (λ t more env. shorten_as _ _ (not_normal t c.args.end (loop env) c.in_default.not-Normal))

@@ -22,8 +22,8 @@ use Rattle.wjs_frames.specs.Following.{Later}
 use Rattle.wjs_stopping.specs.Ends.{gives_in}
 use Rattle.wjs_stopping.specs.Evaluating.{HasOutcome, InMemory}
 use Rattle.wjs_stopping.specs.Waiting.{at_node}
-use Rattle.wjs_direct.proofs.Forming.{form_goes_on, node_there}
-use Rattle.wjs_direct.proofs.Parts.{broke_does, broke_found, broke_later, later_stopped, later_then, stop_found, given_does}
+use Rattle.wjs_direct_lines.proofs.Forming.{form_goes_on, node_there}
+use Rattle.wjs_direct_lines.proofs.Parts.{broke_does, broke_found, broke_later, later_stopped, later_then, stop_found, given_does}
 use Rattle.wjs_base.specs.declared.ids.WorldId.{WorldId}
 use Rattle.wjs_heap_steps.specs.Worlds.{world_then}
 use Rattle.wjs_direct.proofs.InWorlds.{block_inside, inside_there, world_opened}
@@ -93,21 +93,58 @@ within-returns-in-Err-clause-does g t c =
 
 -- its world, and the block in it
 
-pub opened-inside-requires : goal.within::opened-inside-requires
-opened-inside-requires g t c =
+pub opened-statement-done-requires : goal.within::opened-statement-done-requires
+opened-statement-done-requires g t c =
     let m = g.S.WorldStore.meaning in
     let old = c.args.config.now in
+    let f = c.args.frame.now in
     let world : HasWorld m old c.in-Some.world = subst (λ (o : Option WorldId). IfSome o (HasWorld m old)) c.in-Some.is c.in_ok-found.ensures.found in
     let shown : IsShown old.heap.arena c.in-Some.world = subst (λ (o : Option WorldId). IfSome o (IsShown old.heap.arena)) c.in-Some.is c.in_ok-found.ensures.shown in
-    search (rules, world, shown)
+    let first : Config g.row.S.Denot = record old { frames = c.begun.new.self } in
+    let begun : first ≡ old = λ i. record old { frames = c.in_ok-inner-in-Some.ensures.same i } in
+    let inner = c.set_world.new.self in
+    let start : inner ≡ record (at_node f c.args.block []) { world = c.in-Some.world } = c.set_world.ensures ∙ ap (λ (q : Frame). record q { world = c.in-Some.world }) c.in_ok-inner-in-Some.ensures.frame in
+    let base : Base m first = subst (Base m) (sym begun) c.requires.base in
+    let there : IsThere m first inner = subst (λ (x : Config g.row.S.Denot). IsThere m x inner) (sym begun) (inside_there m old f inner c.args.block c.in-Some.world c.requires.there c.requires.block world shown start) in
+    let block : StandsHere first inner c.args.block = subst (λ (q : Frame). StandsHere first q c.args.block) (sym start) c.requires.block in
+    let empty : c.args.stops.now.waits ≡ [] = c.requires.empty in
+    search (rules, base, there, block, empty)
 
-pub opened-returns-in-Some-clause-does : goal.within::opened-returns-in-Some-clause-does
-opened-returns-in-Some-clause-does g t c =
+pub opened-returns-in_ok-inner-in-Some-clause-later : goal.within::opened-returns-in_ok-inner-in-Some-clause-later
+opened-returns-in_ok-inner-in-Some-clause-later g t c =
     let m = g.S.WorldStore.meaning in
     let old = c.args.config.now in
-    let k = c.inside.new.stops in
-    world_opened m completion_in old c.inside.new.config c.args.frame.now c.args.block c.args.given c.in-Some.world c.inside.result k.waits k.top
-    (subst (λ (o : Option WorldId). Does m (λ t. world_then (value_in t c.args.given)) (λ t. o) old old) c.in-Some.is c.in_ok-found.ensures.does) c.inside.ensures.does
+    let first : Config g.row.S.Denot = record old { frames = c.begun.new.self } in
+    let begun : first ≡ old = λ i. record old { frames = c.in_ok-inner-in-Some.ensures.same i } in
+    let ran = c.statement-done.new.config in
+    let same : record ran { frames = c.spare.new.self } ≡ ran = λ i. record ran { frames = c.spare.ensures i } in
+    let done = c.statement-done.result in
+    subst (λ (x : Config g.row.S.Denot). InMemory done (Later m old x)) (sym same)
+    (subst (λ (x : Config g.row.S.Denot). InMemory done (Later m x ran)) begun c.statement-done.ensures.later)
+
+pub opened-returns-in_ok-inner-in-Some-clause-found : goal.within::opened-returns-in_ok-inner-in-Some-clause-found
+opened-returns-in_ok-inner-in-Some-clause-found g t c =
+    let ran = c.statement-done.new.config in
+    let same : record ran { frames = c.spare.new.self } ≡ ran = λ i. record ran { frames = c.spare.ensures i } in
+    let k = c.statement-done.new.stops in
+    subst (λ (x : Config g.row.S.Denot). HasOutcome g.S.WorldStore.meaning HasCompletion x c.statement-done.result k.waits k.top) (sym same) c.statement-done.ensures.found
+
+pub opened-returns-in_ok-inner-in-Some-clause-does : goal.within::opened-returns-in_ok-inner-in-Some-clause-does
+opened-returns-in_ok-inner-in-Some-clause-does g t c =
+    let m = g.S.WorldStore.meaning in
+    let old = c.args.config.now in
+    let f = c.args.frame.now in
+    let first : Config g.row.S.Denot = record old { frames = c.begun.new.self } in
+    let begun : first ≡ old = λ i. record old { frames = c.in_ok-inner-in-Some.ensures.same i } in
+    let ran = c.statement-done.new.config in
+    let new : Config g.row.S.Denot = record ran { frames = c.spare.new.self } in
+    let same : new ≡ ran = λ i. record ran { frames = c.spare.ensures i } in
+    let inner = c.set_world.new.self in
+    let start : inner ≡ record (at_node f c.args.block []) { world = c.in-Some.world } = c.set_world.ensures ∙ ap (λ (q : Frame). record q { world = c.in-Some.world }) c.in_ok-inner-in-Some.ensures.frame in
+    let k = c.statement-done.new.stops in
+    world_opened m completion_in old new f c.args.block c.args.given c.in-Some.world c.statement-done.result k.waits k.top
+    (subst (λ (o : Option WorldId). Does m (λ t. world_then (value_in t c.args.given)) (λ t. o) old old) c.in-Some.is c.in_ok-found.ensures.does)
+    (block_inside m completion_in old first ran new f inner c.args.block c.in-Some.world c.statement-done.result k.waits k.top begun start same c.statement-done.ensures.does)
 
 pub opened-returns-in-None-clause-later : goal.within::opened-returns-in-None-clause-later
 opened-returns-in-None-clause-later g t c =
@@ -124,52 +161,3 @@ opened-returns-in-None-clause-does g t c =
     let s = c.stop.new.stops in
     given_does g.S.WorldStore.meaning completion_in c.args.config.now c.stop.new.config c.args.frame.now c.stop.result s.waits s.top c.stop.ensures.same c.args.node [] (points.Stmt (stmt.WithinWorld c.args.block))
     (completions.Gives c.args.given) c.stop.ensures.stops
-
-pub inside-statement-done-requires : goal.within::inside-statement-done-requires
-inside-statement-done-requires g t c =
-    let m = g.S.WorldStore.meaning in
-    let old = c.args.config.now in
-    let f = c.args.frame.now in
-    let first : Config g.row.S.Denot = record old { frames = c.begun.new.self } in
-    let begun : first ≡ old = λ i. record old { frames = c.in_ok-inner.ensures.same i } in
-    let inner = c.set_world.new.self in
-    let start : inner ≡ record (at_node f c.args.block []) { world = c.args.world } = c.set_world.ensures ∙ ap (λ (q : Frame). record q { world = c.args.world }) c.in_ok-inner.ensures.frame in
-    let base : Base m first = subst (Base m) (sym begun) c.requires.base in
-    let there : IsThere m first inner = subst (λ (x : Config g.row.S.Denot). IsThere m x inner) (sym begun) (inside_there m old f inner c.args.block c.args.world c.requires.there c.requires.block c.requires.world c.requires.shown start) in
-    let block : StandsHere first inner c.args.block = subst (λ (q : Frame). StandsHere first q c.args.block) (sym start) c.requires.block in
-    let empty : c.args.stops.now.waits ≡ [] = c.requires.empty in
-    search (rules, base, there, block, empty)
-
-pub inside-returns-clause-later : goal.within::inside-returns-clause-later
-inside-returns-clause-later g t c =
-    let m = g.S.WorldStore.meaning in
-    let old = c.args.config.now in
-    let first : Config g.row.S.Denot = record old { frames = c.begun.new.self } in
-    let begun : first ≡ old = λ i. record old { frames = c.in_ok-inner.ensures.same i } in
-    let ran = c.statement-done.new.config in
-    let same : record ran { frames = c.spare.new.self } ≡ ran = λ i. record ran { frames = c.spare.ensures i } in
-    let done = c.statement-done.result in
-    subst (λ (x : Config g.row.S.Denot). InMemory done (Later m old x)) (sym same)
-    (subst (λ (x : Config g.row.S.Denot). InMemory done (Later m x ran)) begun c.statement-done.ensures.later)
-
-pub inside-returns-clause-found : goal.within::inside-returns-clause-found
-inside-returns-clause-found g t c =
-    let ran = c.statement-done.new.config in
-    let same : record ran { frames = c.spare.new.self } ≡ ran = λ i. record ran { frames = c.spare.ensures i } in
-    let k = c.statement-done.new.stops in
-    subst (λ (x : Config g.row.S.Denot). HasOutcome g.S.WorldStore.meaning HasCompletion x c.statement-done.result k.waits k.top) (sym same) c.statement-done.ensures.found
-
-pub inside-returns-clause-does : goal.within::inside-returns-clause-does
-inside-returns-clause-does g t c =
-    let m = g.S.WorldStore.meaning in
-    let old = c.args.config.now in
-    let f = c.args.frame.now in
-    let first : Config g.row.S.Denot = record old { frames = c.begun.new.self } in
-    let begun : first ≡ old = λ i. record old { frames = c.in_ok-inner.ensures.same i } in
-    let ran = c.statement-done.new.config in
-    let new : Config g.row.S.Denot = record ran { frames = c.spare.new.self } in
-    let same : new ≡ ran = λ i. record ran { frames = c.spare.ensures i } in
-    let inner = c.set_world.new.self in
-    let start : inner ≡ record (at_node f c.args.block []) { world = c.args.world } = c.set_world.ensures ∙ ap (λ (q : Frame). record q { world = c.args.world }) c.in_ok-inner.ensures.frame in
-    let k = c.statement-done.new.stops in
-    block_inside m completion_in old first ran new f inner c.args.block c.args.world c.statement-done.result k.waits k.top begun start same c.statement-done.ensures.does

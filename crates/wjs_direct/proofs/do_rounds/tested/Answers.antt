@@ -9,10 +9,10 @@ use Rattle.wjs_model.specs.Soundness.{StandsHere}
 use Rattle.wjs_frames.proofs.Parting.{stands_later}
 use Rattle.wjs_stopping.specs.Evaluating.{Evaluates, Leaves, outcome_in}
 use Rattle.wjs_stopping.proofs.Evaluating.{in_memory, leaves_all}
-use Rattle.wjs_direct.specs.Deeds.{form_here, goal_here}
+use Rattle.wjs_direct_lines.specs.Deeds.{form_here, goal_here}
 use Rattle.wjs_direct.specs.Rounds.{IsDo, do_round, round_left}
 use Rattle.wjs_direct.proofs.Looping.{round_later}
-use Rattle.wjs_direct.proofs.Parts.{later_then}
+use Rattle.wjs_direct_lines.proofs.Parts.{later_then}
 use Rattle.wjs_direct.proofs.do_rounds.tested.Goals as goal
 
 pub iterations-requires-clause-there : goal.iterations-requires-clause-there

@@ -14,7 +14,7 @@ use Rattle.wjs_frames.specs.Parts.{env_in}
 use Rattle.wjs_frames.proofs.Handling.{runs_held, runs_over}
 use Rattle.wjs_frames.proofs.Held.{values_there}
 use Rattle.wjs_variables.specs.Entering.{entered_then}
-use Rattle.wjs_direct.proofs.Entering.{body_runs, earliest_each}
+use Rattle.wjs_direct_lines.proofs.Entering.{body_runs, earliest_each}
 use Rattle.wjs_direct.proofs.entries.begin_scope.Goals as goal
 
 pub enter_scope-requires-clause-there : goal.enter_scope-requires-clause-there

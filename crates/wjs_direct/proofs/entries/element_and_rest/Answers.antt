@@ -14,8 +14,8 @@ use Rattle.wjs_frames.specs.Parts.{node_among}
 use Rattle.wjs_effects.specs.declared.elements.Sequence.TheVariants as kinds
 use Rattle.wjs_effects.proofs.StandingElements.{sequence_later}
 use Rattle.wjs_stopping.specs.Ends.{gives_in}
-use Rattle.wjs_direct.proofs.Entering.{behind, behind_later, element_ended}
-use Rattle.wjs_direct.proofs.Parts.{broke_does, broke_found, broke_later, later_then}
+use Rattle.wjs_direct_lines.proofs.Entering.{behind, behind_later, element_ended}
+use Rattle.wjs_direct_lines.proofs.Parts.{broke_does, broke_found, broke_later, later_then}
 use Rattle.wjs_direct.proofs.entries.element_and_rest.Goals as goal
 
 pub rest_after-requires-clause-base : goal.rest_after-requires-clause-base

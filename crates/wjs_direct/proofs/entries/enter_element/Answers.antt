@@ -3,7 +3,7 @@ use Rattle.wjs_frames.specs.Parts.{env_in}
 use Rattle.wjs_frames.proofs.Handling.{running_later}
 use Rattle.wjs_stopping.specs.Ends.{gives_in}
 use Rattle.wjs_stopping.proofs.Evaluating.{form_is_line, in_memory}
-use Rattle.wjs_direct.proofs.Entering.{behind}
+use Rattle.wjs_direct_lines.proofs.Entering.{behind}
 use Rattle.wjs_direct.proofs.entries.enter_element.Goals as goal
 
 pub finish_value-requires-clause-running : goal.finish_value-requires-clause-running

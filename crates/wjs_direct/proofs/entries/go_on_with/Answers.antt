@@ -20,9 +20,9 @@ use Rattle.wjs_model.specs.declared.point.CallPoint.TheVariants as calls
 use Rattle.wjs_model.specs.declared.point.Point.TheVariants as points
 use Rattle.wjs_stopping.specs.Ends.{gives_in}
 use Rattle.wjs_stopping.proofs.Evaluating.{form_is_line, in_memory}
-use Rattle.wjs_direct.specs.Deeds.{goal_here}
-use Rattle.wjs_direct.proofs.Entering.{behind, element_ended}
-use Rattle.wjs_direct.proofs.Parts.{did, later_then}
+use Rattle.wjs_direct_lines.specs.Deeds.{goal_here}
+use Rattle.wjs_direct_lines.proofs.Entering.{behind, element_ended}
+use Rattle.wjs_direct_lines.proofs.Parts.{did, later_then}
 use Rattle.wjs_direct.proofs.entries.go_on_with.Goals as goal
 
 -- it was done at once

@@ -3,8 +3,8 @@ use Rattle.wjs_model.specs.declared.frame.Completion.{Completion}
 use Rattle.wjs_model.specs.Contents.{completion_in}
 use Rattle.wjs_stopping.specs.Ends.{gives_in}
 use Rattle.wjs_stopping.specs.Evaluating.{Evaluates}
-use Rattle.wjs_direct.specs.Deeds.{line_here}
-use Rattle.wjs_direct.proofs.Entering.{behind}
+use Rattle.wjs_direct_lines.specs.Deeds.{line_here}
+use Rattle.wjs_direct_lines.proofs.Entering.{behind}
 use Rattle.wjs_direct.proofs.entries.rest_after.Goals as goal
 
 pub returns-in-Normal-clause-does : goal.returns-in-Normal-clause-does

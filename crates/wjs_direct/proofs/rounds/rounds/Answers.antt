@@ -4,8 +4,8 @@ use Rattle.wjs_meaning.specs.Deeds.{Again}
 use Rattle.wjs_model.specs.Contents.{completion_in}
 use Rattle.wjs_frames.specs.Parts.{env_in}
 use Rattle.wjs_stopping.specs.Evaluating.{Evaluates}
-use Rattle.wjs_direct.specs.Deeds.{goal_here}
-use Rattle.wjs_direct.proofs.Behind.{goal_follows}
+use Rattle.wjs_direct_lines.specs.Deeds.{goal_here}
+use Rattle.wjs_direct_lines.proofs.Behind.{goal_follows}
 use Rattle.wjs_direct.proofs.rounds.rounds.Goals as goal
 
 pub returns : goal.returns

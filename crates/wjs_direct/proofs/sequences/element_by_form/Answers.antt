@@ -5,10 +5,10 @@ use Rattle.wjs_model.specs.declared.frame.Completion.{Completion}
 use Rattle.wjs_model.specs.Contents.{completion_in}
 use Rattle.wjs_model.specs.Standing.{Stands}
 use Rattle.wjs_effects.proofs.StandingElements.{sequence_later}
-use Rattle.wjs_direct.specs.Sequences.{behind}
-use Rattle.wjs_direct.proofs.Behind.{behind_throws, end_later, stopped_waits, waits_there}
-use Rattle.wjs_direct.proofs.Forming.{form_goes_on}
-use Rattle.wjs_direct.proofs.Parts.{broke_does, broke_found, broke_later, later_then}
+use Rattle.wjs_direct_lines.specs.Sequences.{behind}
+use Rattle.wjs_direct_lines.proofs.Behind.{behind_throws, end_later, stopped_waits, waits_there}
+use Rattle.wjs_direct_lines.proofs.Forming.{form_goes_on}
+use Rattle.wjs_direct_lines.proofs.Parts.{broke_does, broke_found, broke_later, later_then}
 use Rattle.wjs_direct.proofs.sequences.element_by_form.Goals as goal
 
 pub given-requires-clause-base : goal.given-requires-clause-base

@@ -10,7 +10,7 @@ use Rattle.wjs_step_common.proofs.Following.{follows_as}
 use Rattle.wjs_effects.proofs.Running.{element_waits}
 use Rattle.wjs_effects.proofs.StandingElements.{point_there}
 use Rattle.wjs_stopping.proofs.Evaluating.{form_is_line, in_memory}
-use Rattle.wjs_direct.specs.Sequences.{behind}
+use Rattle.wjs_direct_lines.specs.Sequences.{behind}
 use Rattle.wjs_direct.proofs.sequences.run_element.Goals as goal
 
 pub finish_end-requires-clause-running : goal.finish_end-requires-clause-running

@@ -21,4 +21,4 @@ returns-clause-leaves g c =
     let last = c.value_at-2.new.steps in
     if_some _ _ c.index_reference.result (λ r shortens. leaves_by m now f (AtExpr c.args.base.0) (λ t env. then_value (line.at_base c.args.index.0 env refer)) (completions.Gives o) (ends (completions.Refers r)) before mid last (leaves_value m now f (AtExpr c.args.base.0) o before mid c.in_ok-object.ensures.does)
     (leaves_by m now f (AtExpr c.args.index.0) (λ t env. then_value (line.at_index (value_in t o) env refer)) (completions.Gives key) (ends (completions.Refers r)) mid last last (leaves_value m now f (AtExpr c.args.index.0) key mid last c.in_ok-key.ensures.does)
-    (leaves_ended m now f (λ t env. line.at_index (value_in t o) env refer (value_in t key)) (completions.Refers r) last (λ t more. shortens t more (env_in m now t f))))) c.index_reference.ensures.ends
+    (leaves_ended m now f (λ t env. line.at_index (value_in t o) env refer (value_in t key)) (completions.Refers r) last (λ t more. shortens t more (env_in m now t f) refer)))) c.index_reference.ensures.ends

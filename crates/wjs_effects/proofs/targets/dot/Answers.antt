@@ -19,4 +19,4 @@ returns-clause-leaves g c =
     let before = c.args.steps.now in
     let mid = c.value_at.new.steps in
     if_some _ _ c.dot_reference.result (λ r shortens. leaves_by m now f (AtExpr c.args.base.0) (λ t env. then_value (line.dot_base (spelt_in t c.args.name) env refer)) (completions.Gives o) (ends (completions.Refers r)) before mid mid (leaves_value m now f (AtExpr c.args.base.0) o before mid c.in_ok-object.ensures.does)
-    (leaves_ended m now f (λ t env. line.dot_base (spelt_in t c.args.name) env refer (value_in t o)) (completions.Refers r) mid (λ t more. shortens t more (env_in m now t f)))) c.dot_reference.ensures.ends
+    (leaves_ended m now f (λ t env. line.dot_base (spelt_in t c.args.name) env refer (value_in t o)) (completions.Refers r) mid (λ t more. shortens t more (env_in m now t f) refer))) c.dot_reference.ensures.ends

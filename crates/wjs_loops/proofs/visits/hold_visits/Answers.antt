@@ -2,7 +2,7 @@ use Rattle.std.proofs.Common.{[], ap, ◌++◌, ◌∙◌}
 use Rattle.wjs_by_content.specs.Tables.{value_in}
 use Rattle.wjs_model.specs.declared.frame.Activation.{Activation as Frame}
 use Rattle.wjs_step_common.specs.Lists.{visits_as_items}
-use Rattle.wjs_loops.proofs.Visiting.{lists_held, items_there, held_alone, holding_there}
+use Rattle.wjs_loops.proofs.Visiting.{lists_held, items_there, held_alone, holding_there, refuses_none}
 use Rattle.wjs_loops.proofs.visits.hold_visits.Goals as goal
 
 pub returns-in_ok-push_visits-in-Some-clause-lists :
@@ -22,3 +22,7 @@ returns-in_ok-push_visits-in-Some-clause-there g c =
 
 pub returns-in_ok-error-in-None-clause-there : goal.returns-in_ok-error-in-None-clause-there
 returns-in_ok-error-in-None-clause-there g c = c.in_ok-error-in-None.ensures.later.frames c.args.frame.now c.requires.there
+
+pub returns-in_ok-error-in-None-clause-lists : goal.returns-in_ok-error-in-None-clause-lists
+returns-in_ok-error-in-None-clause-lists g c =
+    refuses_none g.S.WorldStore.meaning (λ t. value_in t c.args.value) c.in_ok-error-in-None.error c.args.frame.now c.args.config.now c.create_error.new.config c.in-None.ensures.is c.in_ok-error-in-None.ensures.does

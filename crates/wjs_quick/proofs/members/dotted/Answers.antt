@@ -17,5 +17,5 @@ returns-in-Word-clause-does g c =
     let f = c.args.frame.now in
     if_some _ _ c.peek_word.result (λ v p left.
     comes_as m now f (λ t env. member_value (value_in t c.args.base) (text_in t c.in-Word.id) env give) (λ t env. dot_base (spelt_in t c.args.name) env (give_value_of env) (value_in t c.args.base)) v left left
-    (λ t more. dot_is (value_in t c.args.base) (text_in t c.in-Word.id) (spelt_in t c.args.name) (env_in m now t f) (c.is_nullish.ensures t ∙ c.if-is_nullish.false) (sym (ap (spelt_in t) c.in-Word.is)))
+    (λ t more. dot_is (value_in t c.args.base) (text_in t c.in-Word.id) (spelt_in t c.args.name) (env_in m now t f) (give_value_of (env_in m now t f)) (c.is_nullish.ensures t ∙ c.if-is_nullish.false) (sym (ap (spelt_in t) c.in-Word.is)))
     (comes_found m now f (λ t env. member_value (value_in t c.args.base) (text_in t c.in-Word.id) env) v left (λ t env go. member_shortens (value_in t c.args.base) (text_in t c.in-Word.id) env go) p)) c.peek_word.ensures.peeks

@@ -17,5 +17,5 @@ returns-clause-does g c =
     let n = c.in_ok-name.name in
     if_some _ _ c.peek_member.result (λ v p left.
     comes_shorter m now f (λ t env. at_index (value_in t c.args.base) env (give_value_of env) (value_in t c.args.key)) (λ t env. member_value (value_in t c.args.base) (name_in t n) env give) v left left
-    (λ t more. at_shortens (value_in t c.args.base) (value_in t c.args.key) (name_in t n) (env_in m now t f) (c.is_nullish.ensures t ∙ c.if-is_nullish.false) (c.in_ok-name.ensures.primitive t) (c.in_ok-name.ensures.is t more))
+    (λ t more. at_shortens (value_in t c.args.base) (value_in t c.args.key) (name_in t n) (env_in m now t f) (give_value_of (env_in m now t f)) (c.is_nullish.ensures t ∙ c.if-is_nullish.false) (c.in_ok-name.ensures.primitive t) (c.in_ok-name.ensures.is t more))
     (comes_found m now f (λ t env. member_value (value_in t c.args.base) (name_in t n) env) v left (λ t env go. member_shortens (value_in t c.args.base) (name_in t n) env go) p)) c.peek_member.ensures.peeks

@@ -12,7 +12,7 @@ use Rattle.wjs_props.specs.Several.{rows_in}
 use Rattle.wjs_heap_steps.proofs.Having.{value_both}
 use Rattle.wjs_heap_steps.proofs.Making.{number_there, number_near}
 use Rattle.wjs_calls.proofs.Elements.{length-each}
-use Rattle.wjs_variables.proofs.Gathering.{written_as}
+use Rattle.wjs_calls.proofs.Rows.{written_as}
 use Rattle.wjs_variables.proofs.arguments.write_arguments.Goals as goal
 
 pub write_listed-requires-clause-rows : goal.write_listed-requires-clause-rows

@@ -8,7 +8,7 @@ use Rattle.wjs_meaning.specs.NewObjects.{elements_from}
 use Rattle.wjs_model.specs.Soundness.{HasValue}
 use Rattle.wjs_props.specs.Several.{rows_in}
 use Rattle.wjs_variables.proofs.Filling.{none_there, one_read, two_read}
-use Rattle.wjs_variables.proofs.Gathering.{written_as}
+use Rattle.wjs_calls.proofs.Rows.{written_as}
 use Rattle.wjs_variables.proofs.arguments.write_listed.Goals as goal
 
 pub returns-in-empty-clause-does : goal.returns-in-empty-clause-does

@@ -15,7 +15,7 @@ use Rattle.wjs_model.specs.Soundness.{HasObject}
 use Rattle.wjs_frames.specs.Doing.{DoesFirst}
 use Rattle.wjs_props.specs.Several.{rows_in}
 use Rattle.wjs_variables.proofs.Filling.{none_there, one_there, two_there, three_there, formal_slot, one_formal, two_formals, three_formals}
-use Rattle.wjs_variables.proofs.Gathering.{written_as}
+use Rattle.wjs_calls.proofs.Rows.{written_as}
 use Rattle.wjs_variables.proofs.scopes.write_formals.Goals as goal
 
 pub write_rows-requires-clause-rows : goal.write_rows-requires-clause-rows

@@ -13,7 +13,8 @@ use Rattle.wjs_props.specs.Several.{rows_in}
 use Rattle.wjs_heap_steps.specs.HasRows.{HasRows}
 use Rattle.wjs_variables.specs.Filling.{undefined_slots}
 use Rattle.wjs_variables.proofs.Filling.{formals_undefined}
-use Rattle.wjs_variables.proofs.Gathering.{row_in, row_there, written_as}
+use Rattle.wjs_calls.proofs.Rows.{written_as}
+use Rattle.wjs_variables.proofs.Gathering.{row_in, row_there}
 use Rattle.wjs_variables.proofs.scopes.write_gathered.Goals as goal
 
 pub put_formals-requires-clause-known : goal.put_formals-requires-clause-known

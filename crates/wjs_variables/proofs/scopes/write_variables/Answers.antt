@@ -15,7 +15,7 @@ use Rattle.wjs_model.specs.Soundness.{HasValue}
 use Rattle.wjs_frames.specs.Doing.{DoesFirst}
 use Rattle.wjs_calls.proofs.Rows.{ok_later}
 use Rattle.wjs_variables.specs.Filling.{undefined_slots}
-use Rattle.wjs_variables.proofs.Gathering.{written_as}
+use Rattle.wjs_calls.proofs.Rows.{written_as}
 use Rattle.wjs_variables.proofs.scopes.write_variables.Goals as goal
 
 pub write_formals-requires-clause-base : goal.write_formals-requires-clause-base
