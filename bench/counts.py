@@ -231,7 +231,7 @@ def turns_of(scripts):
             new.write(f'{old.read()}{TURNS_NAME}: {TURNS_NAMES}\n')
         given = ''.join(script.of_size(script.sizes[0]) + '\0' for script in scripts)
         # with words it is run as compiled code alone
-        done = subprocess.run(['rt', 'try', '--', 'count'], cwd=os.path.dirname(bench), input=given.encode(), capture_output=True)
+        done = subprocess.run(['rt', 'try', '--seconds', '600', '--', 'count'], cwd=os.path.dirname(bench), input=given.encode(), capture_output=True)
     lines = done.stdout.decode().splitlines()
     if done.returncode or len(lines) != len(scripts) or '-' in lines:
         sys.exit(f'rt try ends with {done.returncode}: {done.stderr.decode()[-2000:]}')
