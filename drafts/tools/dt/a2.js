@@ -1,1 +1,0 @@
-var w = thisWorld.sprout(), v = thisWorld.sproutStrict(); String.prototype.charAt = function () { return "P" + this.length; }; in w { print("abc".charAt(1)); var f = function (s) { return s.charAt(0) + s.length; }; print(f("xyz")); } in v { print(f("q")); } w.commit(); v.commit(); print("abc".charAt(2));

@@ -1,3 +1,0 @@
-function t() { var s = "abc"; return "[" + s.charAt(NaN) + s.charAt(0, 1) + s.slice(1, undefined) + s.slice(-2) + s.slice(1, 2) + s.substring(2, 0) + s.indexOf("c", 0) + s.indexOf("c") + s.lastIndexOf("a", 2) + s.charCodeAt(9) + s.charCodeAt(1) + "]"; }
-print(t()); var s = "abc"; try { s.x += 1; s.x++; print(s.x); } catch (e) { print(e); } function q() { "abc".x += 1; return "abc".x++; } print(q());
-function r() { return String.fromCharCode(65, 66, 67) + String.fromCharCode() + isNaN(1) + isNaN("x") + isNaN() + Math.floor(3) + Math.round("4") + Math.abs(-3) + Math.min(3, 1, 2) + Math.max(1); } print(r());

@@ -1,2 +1,0 @@
-function j(a, b) { return "x" + a + b; } function k(a) { var s = ""; for (var i = 0; i < 4; i++) { s += j(i, a); s = s + i; } return s; } print(k(true)); print(k(null)); print(k("y")); function big(s) { return s + j(s, s); } 
-var t = "0123456789"; for (var i = 0; i < 3; i++) t = big(t); print(t.length); function ob(x) { return "v" + x; } print(ob({toString: function () { return "T"; }})); print(ob([1, 2])); function nn(a, b) { return a + b; } print(nn(1, 2) + nn("1", 2) + nn(1, "2") + nn(true, "a") + nn(undefined, "u"));
